@@ -1,6 +1,7 @@
 """Builds the wheel with the standard library alone, so that pip needs no network (PEP 517 and PEP 660).
 
-The wheel has libexcp.so if EXCP_LIBRARY names it, or if it is beside the package or in out/library of the repository.
+The wheel has the command `excp`, whose pages of help are files of the package. It has libexcp.so if EXCP_LIBRARY names it, or if it is
+beside the package or in out/library of the repository.
 """
 
 import base64
@@ -15,11 +16,11 @@ PACKAGE = "excp"
 LIBRARY = "libexcp.so"
 
 
-def project():
-    """The words of the table `project` of pyproject.toml. Each is one string on one line."""
+def project(table="project"):
+    """The words of a table of pyproject.toml. Each is one string on one line."""
     with open(f"{HERE}/pyproject.toml", encoding="utf-8") as it:
-        table = it.read().partition("[project]\n")[2]
-    return dict(re.findall(r'^([a-z-]+) = "(.*)"$', table, re.M))
+        words = it.read().partition(f"[{table}]\n")[2].partition("\n[")[0]
+    return dict(re.findall(r'^([a-z-]+) = "(.*)"$', words, re.M))
 
 
 def built_library():
@@ -46,7 +47,9 @@ def metadata():
     lines.append(f"Requires-Python: {its['requires-python']}")
     purelib = "false" if built_library() else "true"
     wheel = ["Wheel-Version: 1.0", "Generator: wheel_backend", f"Root-Is-Purelib: {purelib}", f"Tag: {tag()}"]
-    return {f"{dist_info()}/METADATA": "\n".join([*lines, ""]).encode(), f"{dist_info()}/WHEEL": "\n".join([*wheel, ""]).encode()}
+    scripts = ["[console_scripts]", *(f"{name} = {call}" for name, call in project("project.scripts").items())]
+    files = {"METADATA": lines, "WHEEL": wheel, "entry_points.txt": scripts}
+    return {f"{dist_info()}/{name}": "\n".join([*its, ""]).encode() for name, its in files.items()}
 
 
 def read(file):
@@ -61,7 +64,7 @@ def package():
     for place, folders, names in os.walk(folder):
         folders.sort()
         for it in sorted(names):
-            if it.endswith((".py", ".typed")):
+            if it.endswith((".py", ".typed", ".txt")):
                 files[os.path.relpath(f"{place}/{it}", HERE)] = read(f"{place}/{it}")
     library = built_library()
     return {**files, f"{PACKAGE}/{LIBRARY}": read(library)} if library else files

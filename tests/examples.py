@@ -20,13 +20,10 @@ COMMAND = re.compile(r"(?:\$ )?(?:\./|tests/|tools/|cd |rt |job=)")
 # job whose outcomes the pages show has several, of which the status tells.
 EXCP = """#!/usr/bin/env bash
 set -o pipefail
-case "$1 $2" in
-    check\\ * | assemble\\ * | describe\\ * | convert\\ * | "report --listing") exec {package} "$@" ;;
-esac
 case "$1" in
-    report | step) exec {tools} "$@" ;;
+    report | step | check | assemble | describe | convert) exec {package} "$@" ;;
     outcomes)
-        {tools} "$@"
+        {package} "$@"
         [ $? = 5 ]
         ;;
     -) exec {program} run ;;
@@ -178,7 +175,7 @@ def prints_page(setup, block, following):
         for name in "samples", "tests":
             os.symlink(f"{TOP}/{name}", f"{folder}/{name}")
         files = {name: content(block.page, source) for name, source in sources.items()}
-        programs = {"program": [setup.program], "tools": [setup.tools], "package": [sys.executable, f"{TOP}/tests/package.py"]}
+        programs = {"program": [setup.program], "package": [sys.executable, f"{TOP}/tests/package.py", setup.tools]}
         files["excp"] = EXCP.format(**{name: shlex.join(it) for name, it in programs.items()}).encode()
         for name, held in files.items():
             with open(f"{folder}/{name}", "wb") as file:

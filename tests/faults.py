@@ -22,7 +22,8 @@ FOUND = re.compile(rf"<stdin>(?::([1-9][0-9]*))?: (note|{'|'.join([*OF_LINES, *O
 # What a run reports of a script that it rejects.
 REPORTED = re.compile(r"excp_job: (line [0-9]+: [A-Z][a-z]+|script too long)\n")
 
-TOO_LONG = "excp_job: script too long\n"
+# What a run says of a script that is too long, and what the words of the package do.
+RUN_TOO_LONG, TOO_LONG = "excp_job: script too long\n", "excp: script too long\n"
 
 UNITS = b"disk", b"tape", b"printer"
 
@@ -44,7 +45,7 @@ def place_of(line, name, words):
     if name != "Medium":
         return (stage, line), line
     unit = int(words[line][1])
-    declared = next(at for at, them in words.items() if them[0] in UNITS and int(them[1]) == unit)
+    declared = next(at for at, them in words.items() if them[0] in UNITS and them[1].isdigit() and int(them[1]) == unit)
     return (stage, unit), declared
 
 
@@ -131,8 +132,8 @@ def require_alike(setup, script, ran=None):
     is_rejected = bool(ran.err)
     if ran.status != int(is_rejected) or (is_rejected and (ran.out or not REPORTED.fullmatch(ran.err))):
         fail("the run ended neither with posts nor with a fault")
-    if ran.err == TOO_LONG or checked.err:
-        if (checked.status, checked.out, checked.err) != (1, "", ran.err):
+    if ran.err == RUN_TOO_LONG or checked.err:
+        if (ran.err, checked.status, checked.out, checked.err) != (RUN_TOO_LONG, 1, "", TOO_LONG):
             fail("`check` does not reject the script as too long")
         return "too long"
     lines = checked.out.splitlines(keepends=True)

@@ -6,6 +6,7 @@ nothing or a note to print, or raises `Failed` or `Skipped`.
 
 import concurrent.futures
 import difflib
+import importlib
 import multiprocessing
 import os
 import re
@@ -28,9 +29,6 @@ SAMPLES = f"{TOP}/samples"
 
 # The most seconds that one run of a program may take.
 SECONDS = 60
-
-# The words of the package python/excp. `report` is its word for a listing alone.
-PACKAGE_WORDS = "check", "assemble", "report", "describe", "convert"
 
 # The most lines of a diff that a failure shows, and of a text that is not compared.
 LINES = 60
@@ -92,15 +90,15 @@ class Setup:
 
     @property
     def tools(self):
-        """The program excp_tools: beside excp_job, or as `rt ci` built it."""
+        """The program excp_tools, which carries out `report`, `step` and `outcomes`: beside excp_job, or as `rt ci` built it."""
         beside = f"{os.path.dirname(self.program)}/excp_tools"
         return beside if os.path.exists(beside) else f"{TOP}/crates/excp_tools/out/excp_tools"
 
     def command(self, *words):
-        """These words, after the program that has the first."""
-        if is_of_package(words):
-            return [sys.executable, f"{TOP}/tests/package.py", *words]
-        return [self.program if words[:1] == ("run",) else self.tools, *words]
+        """These words, after what has the first: excp_job, or the package python/excp."""
+        if words[:1] == ("run",):
+            return [self.program, *words]
+        return [sys.executable, f"{TOP}/tests/package.py", self.tools, *words]
 
     def skip_unproved(self):
         """Skips a case that an unproved program fails for its AddressSanitizer, which takes time and memory."""
@@ -108,14 +106,15 @@ class Setup:
             if b"AddressSanitizer" in it.read():
                 raise Skipped("an unproved program has AddressSanitizer, and is too slow or too large for it")
 
-    def run(self, *words, script=None, file=""):
-        """Runs the program that has the first word on a script, or on the script in a file."""
+    def run(self, *words, script=None, file="", **how):
+        """Runs what has the first word on a script, or on the script in a file: in the folder `cwd`, with the descriptors `stdin`
+        and `stdout`, for as many seconds as `timeout`."""
         if file:
             script = read(file)
         name = os.path.relpath(file, TOP) if file else ""
-        if is_of_package(words):
-            return run_package(self.command(*words), words, script or "", name)
-        return run(self.command(*words), script or "", name)
+        if words[:1] == ("run",):
+            return run(self.command(*words), script or "", name, **how)
+        return run_package(self.command(*words), self.tools, words, script or "", name, **how)
 
 
 def run(words, script="", file="", **how):
@@ -133,42 +132,41 @@ def run(words, script="", file="", **how):
     return Ran(words, ran.returncode, decoded(ran.stdout), decoded(ran.stderr), script, file)
 
 
-def is_of_package(words):
-    """Whether the package has the first of these words, with these options."""
-    return words[:1] != () and words[0] in PACKAGE_WORDS and (words[0] != "report" or "--listing" in words)
-
-
-def package_main():
-    """What carries out words of the package, whose modules this process imports once, before it has children."""
+def package_main(tools):
+    """What carries out words of the package with this program, whose modules this process imports once, before it has children."""
     from excp.command.main import main
     from excp.command.words import WORDS
 
     for word in WORDS.values():
         word.load()
-    return main
+    for name in "dialog", "whole_script":
+        importlib.import_module(f"excp.command.{name}")
+    return lambda words: main(words, lambda _: tools)
 
 
-def run_package(command, words, script="", file=""):
+def run_package(command, tools, words, script="", file="", cwd=None, stdin=None, stdout=None, timeout=SECONDS):
     """Runs a word of the package as `run` does, but in a child of this process: Python need not start for each of many."""
-    main = package_main()
+    main = package_main(os.path.abspath(tools))
     with tempfile.TemporaryFile() as given, tempfile.TemporaryFile() as out, tempfile.TemporaryFile() as err:
         given.write(encoded(script))
         given.seek(0)
+        streams = given.fileno() if stdin is None else stdin, out.fileno() if stdout is None else stdout, err.fileno()
         child = os.fork()
         if child == 0:
-            for number, stream in enumerate((given, out, err)):
-                os.dup2(stream.fileno(), number)
-            signal.alarm(SECONDS)
+            for number, stream in enumerate(streams):
+                os.dup2(stream, number)
+            signal.alarm(timeout)
             status = 1
             try:
-                status = main(words)
+                os.chdir(cwd or os.curdir)
+                status = main([os.fsdecode(it) for it in words])
             except BaseException:
                 traceback.print_exc(file=open(2, "w", closefd=False))
             finally:
                 os._exit(status)
         status = os.waitstatus_to_exitcode(os.waitpid(child, 0)[1])
         if status == -signal.SIGALRM:
-            status = f"none: it ran for more than {SECONDS} seconds"
+            status = f"none: it ran for more than {timeout} seconds"
         texts = [os.pread(it.fileno(), os.fstat(it.fileno()).st_size, 0) for it in (out, err)]
     return Ran(command, status, decoded(texts[0]), decoded(texts[1]), script, file)
 

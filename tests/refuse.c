@@ -2,7 +2,8 @@
  * 1; 0 for none). REFUSE_KIND is `growth` for malloc and realloc, which then answer that there is no memory, `lasting` for
  * the same from the first such number on, `write` for what is written to standard output, `thread` for threads, which
  * then cannot be made, and `file` for what is written to other files, synced and renamed. At such a call `kill` kills the
- * program instead. How many such calls there were stands, as eight bytes, in the file that CALLS names. */
+ * program instead. How many such calls there were, in the program and in those that it starts, stands, as eight bytes, in
+ * the file that CALLS names, which is empty before. */
 #define _GNU_SOURCE
 #include <dlfcn.h>
 #include <errno.h>
@@ -35,13 +36,12 @@ __attribute__((constructor)) static void begin(void)
     const char *numbers = getenv("REFUSE");
     const char *name = getenv("REFUSE_KIND");
     const char *file = getenv("CALLS");
-    int shared = file ? open(file, O_RDWR | O_CREAT | O_TRUNC, 0644) : -1;
+    int shared = file ? open(file, O_RDWR | O_CREAT, 0644) : -1;
     if (shared >= 0 && ftruncate(shared, sizeof *calls) == 0) {
         void *page = mmap(NULL, sizeof *calls, PROT_READ | PROT_WRITE, MAP_SHARED, shared, 0);
         if (page != MAP_FAILED)
             calls = page;
     }
-    atomic_store(calls, 0);
     lasts = name && strcmp(name, "lasting") == 0;
     if (name && strcmp(name, "write") == 0)
         kind = WRITE;

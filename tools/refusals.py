@@ -21,7 +21,7 @@ ERROR = re.compile(r"-> (?:(?P<io>io::|Io)?Result<(?P<types>.*)>)$")
 
 # What a call rejects whose comment has no such sentence, by the type of its error.
 BY_TYPE = {"AllocError": "out of memory", "AllocFailed": "out of memory: it hands back what it got", "io": "a failed write"}
-BY_TYPE |= {"Cause": "the first fault of the line", "Refusal": "the first fault of the line; out of memory"}
+BY_TYPE |= {"FaultName": "the first fault of the line", "Refusal": "the first fault of the line; out of memory"}
 
 
 def libraries():
@@ -42,7 +42,7 @@ def rows(crate):
             if error:
                 owner = [f"{it[1]}::" for it in OWNER.finditer(text, 0, call.start())][-1:] if call[2] else []
                 said = re.search(r"\bErrors?\b.*", " ".join(it.strip()[4:] for it in call[1].splitlines() if "///" in it))
-                kind = "io" if error["io"] or not re.search(r"\w+Err|Refusal|Cause|Alloc|, ", error["types"]) else error["types"]
+                kind = "io" if error["io"] or not re.search(r"\w+Err|Refusal|FaultName|Alloc|, ", error["types"]) else error["types"]
                 known = next((it for name, it in BY_TYPE.items() if re.search(rf"(?:^|, )\(?{name}\b[^,]*$", kind)), "")
                 yield "".join([*owner, call[3]]), said[0] if said else known
 

@@ -19,9 +19,11 @@ if TYPE_CHECKING:
         NoDcb, NoImage, NoMemory, NoNumber, NoSite, NotIdle, Status,
     )
     from .library import message, version
-    from .site import (
-        TAPE_MARK, Active, Answer, Dcb, DcbPhase, DcbState, Device, Fault, Kind, Line, Method,
-        Mode, Name, Post, Record, Served, ServedEnd, Site, Unit, UnitState,
+    from .site import Site
+    from .unit import Dcb, Unit
+    from .values import (
+        TAPE_MARK, Active, Answer, DcbPhase, DcbState, Device, Fault, Kind, Line, Method, Mode,
+        Name, Post, Record, Served, ServedEnd, UnitState,
     )
 
 # The public names of each module.
@@ -30,8 +32,10 @@ _NAMES = {
     "errors": "BadImage BadMedium BadNumber BadRequest ExcpError Full InError LibraryNotFound "
     "NoDcb NoImage NoMemory NoNumber NoSite NotIdle Status",
     "library": "message version",
-    "site": "TAPE_MARK Active Answer Dcb DcbPhase DcbState Device Fault Kind Line Method Mode Name "
-    "Post Record Served ServedEnd Site Unit UnitState",
+    "site": "Site",
+    "unit": "Dcb Unit",
+    "values": "TAPE_MARK Active Answer DcbPhase DcbState Device Fault Kind Line Method Mode Name "
+    "Post Record Served ServedEnd UnitState",
 }
 
 _MODULES = {name: module for module, names in _NAMES.items() for name in names.split()}

@@ -1,6 +1,7 @@
 """Control blocks as they lie in storage, and the storage of a request. All numbers are big-endian.
 
-docs/SPECIFICATION.md has the layouts (rules 3.2 to 3.9, 4.1 and 4.2), and docs/MANUAL.md explains them.
+docs/SPECIFICATION.md has the layouts (rules 3.2 to 3.9, 4.1 and 4.2), and docs/MANUAL.md explains
+them.
 """
 
 from __future__ import annotations
@@ -27,7 +28,8 @@ class Code(enum.IntEnum):
 
 @dataclass(frozen=True)
 class Ccw:
-    """A channel command word of format 0, 8 bytes. `address` is an address or a label of the area."""
+    """A channel command word of format 0, 8 bytes. `address` is an address or a label of the
+    area."""
 
     command: int
     address: Address = 0
@@ -45,7 +47,8 @@ class Ccw:
 
 @dataclass(frozen=True)
 class Csw:
-    """What is left of a channel program: the last CCW used plus 8, unit and subchannel status, residual count."""
+    """What is left of a channel program: the last CCW used plus 8, unit and subchannel status,
+    residual count."""
 
     address: int = 0
     unit: int = 0
@@ -99,19 +102,21 @@ class Iob:
     def to_bytes(self) -> bytes:
         dcb = self.dcb.__index__()
         head = struct.pack(">BxHI", self.flags, self.sense, _word(self.completion, self.ecb))
-        return head + b"\0" + self.csw.to_bytes() + struct.pack(">II8x", _word(0, self.start), dcb) + self.seek.to_bytes()
+        pointers = struct.pack(">II8x", _word(0, self.start), dcb)
+        return head + b"\0" + self.csw.to_bytes() + pointers + self.seek.to_bytes()
 
     @staticmethod
     def from_bytes(image: bytes) -> Iob:
         flags, sense, word, start, dcb = struct.unpack(">BxHI8xII16x", image)
         csw, seek = Csw.from_bytes(image[9:16]), Seek.from_bytes(image[32:40])
-        return Iob(word & 0xFFFFFF, start & 0xFFFFFF, dcb & 0xFFFFFF, seek, flags, sense, word >> 24, csw)
+        ecb, start, dcb = (it & 0xFFFFFF for it in (word, start, dcb))
+        return Iob(ecb, start, dcb, seek, flags, sense, word >> 24, csw)
 
 
 @dataclass(frozen=True)
 class Extent:
-    """An extent of a DEB, 16 bytes: from track `start_cylinder`, `start_head` to track `end_cylinder`, `end_head`, which are
-    `tracks` tracks. `between` counts them."""
+    """An extent of a DEB, 16 bytes: from track `start_cylinder`, `start_head` to track
+    `end_cylinder`, `end_head`, which are `tracks` tracks. `between` counts them."""
 
     start_cylinder: int
     start_head: int
@@ -124,13 +129,15 @@ class Extent:
 
     @staticmethod
     def between(start: Tuple[int, int], end: Tuple[int, int], heads: int) -> Extent:
-        """The tracks from one to another, each a cylinder and a head, of a disk with `heads` heads a cylinder."""
+        """The tracks from one to another, each a cylinder and a head, of a disk with `heads` heads
+        a cylinder."""
         tracks = (end[0] - start[0]) * heads + end[1] - start[1] + 1
         return Extent(start[0], start[1], end[0], end[1], tracks)
 
     def to_bytes(self) -> bytes:
         ends = self.start_cylinder, self.start_head, self.end_cylinder, self.end_head
-        return struct.pack(">IHHHHHH", _word(self.file_mask, self.unit_block), self.bin, *ends, self.tracks)
+        word = _word(self.file_mask, self.unit_block)
+        return struct.pack(">IHHHHHH", word, self.bin, *ends, self.tracks)
 
     @staticmethod
     def from_bytes(image: bytes) -> Extent:
@@ -147,7 +154,8 @@ class Area:
         area = Area(0x1000)
         area.iob(dcb=dcb, seek=Seek(cylinder=0, head=0))
         area.ecb()
-        area.program(Ccw(Op.SIDE, "ID", Flag.CC, 5), Ccw(Op.TIC, "CP"), Ccw(Op.RD, "BUFFER", count=4))
+        search = Ccw(Op.SIDE, "ID", Flag.CC, 5), Ccw(Op.TIC, "CP")
+        area.program(*search, Ccw(Op.RD, "BUFFER", count=4))
         area.data("ID", bytes([0, 0, 0, 0, 1]))
         area.space("BUFFER", 4)
 
@@ -161,8 +169,16 @@ class Area:
         self._labels: Dict[str, int] = {}
         self._pieces: List[Tuple[int, Union[Ccw, Iob]]] = []
 
-    def iob(self, label: str = "IOB", *, ecb: Address = "ECB", start: Address = "CP", dcb: SupportsIndex = 1, related: bool = False,
-            seek: Seek = Seek()) -> int:
+    def iob(
+        self,
+        label: str = "IOB",
+        *,
+        ecb: Address = "ECB",
+        start: Address = "CP",
+        dcb: SupportsIndex = 1,
+        related: bool = False,
+        seek: Seek = Seek(),
+    ) -> int:
         """Lays out an IOB of a request that is unrelated, or related."""
         flags = Iob.COMMAND_CHAINING | (0 if related else Iob.UNRELATED)
         return self._lay(label, 4, Iob(ecb, start, dcb, seek, flags))
@@ -248,7 +264,8 @@ class Area:
 def piece_of(storage: bytes, base: int, at: int, length: int) -> bytes:
     """Bytes of a storage that lies at `base`."""
     if not base <= at <= at + length <= base + len(storage):
-        raise ValueError(f"{length} bytes at {at:06X} are not in the {len(storage)} bytes at {base:06X}")
+        whole = f"the {len(storage)} bytes at {base:06X}"
+        raise ValueError(f"{length} bytes at {at:06X} are not in {whole}")
     return storage[at - base : at - base + length]
 
 

@@ -41,8 +41,8 @@ class Status(enum.IntEnum):
 
 
 class ExcpError(Exception):
-    """A call that did not return `Status.OK`, and changed nothing. `status` says why; after `serve` and `settle` with
-    `NO_MEMORY`, what was done stays done."""
+    """A call that did not return `Status.OK`, and changed nothing. `status` says why; after `serve`
+    and `settle` with `NO_MEMORY`, what was done stays done."""
 
     def __init__(self, status: int, message: str) -> None:
         super().__init__(message)
@@ -62,7 +62,8 @@ class NoSite(ExcpError):
 
 
 class BadRequest(ExcpError, ValueError):
-    """The storage holds no request for this DCB: its place, its IOB, its ECB, its channel program or its DCB pointer."""
+    """The storage holds no request for this DCB: its place, its IOB, its ECB, its channel program
+    or its DCB pointer."""
 
 
 class BadMedium(ExcpError, ValueError):
@@ -70,11 +71,13 @@ class BadMedium(ExcpError, ValueError):
 
 
 class BadImage(BadMedium):
-    """An image breaks a rule of its format, or has more than the tape. The message is that rule, with the byte in the image."""
+    """An image breaks a rule of its format, or has more than the tape. The message is that rule,
+    with the byte in the image."""
 
 
 class NoImage(ExcpError):
-    """No image has such a disk: it came from no image, and no model has as many heads and bytes a track."""
+    """No image has such a disk: it came from none, and no model has as many heads and bytes a
+    track."""
 
 
 class NoDcb(ExcpError, LookupError):

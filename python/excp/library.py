@@ -6,7 +6,10 @@ import ctypes
 import functools
 import operator
 import os
-from ctypes import POINTER, Structure, byref, c_char_p, c_int, c_size_t, c_uint8, c_uint16, c_uint32, c_uint64, c_void_p
+from ctypes import (
+    POINTER, Structure, byref, c_char_p, c_int, c_size_t, c_uint8, c_uint16, c_uint32, c_uint64,
+    c_void_p,
+)
 from typing import Any, Dict, Iterator, List, Tuple
 
 from .errors import BadNumber, LibraryNotFound, Status, error_of
@@ -25,7 +28,10 @@ class Room(Structure):
 
 
 class Answer(Structure):
-    _fields_ = [("number", c_uint64), ("commands", c_uint32), ("task", c_uint16), ("kind", c_uint8), ("code", c_uint8)]
+    _fields_ = [
+        ("number", c_uint64), ("commands", c_uint32), ("task", c_uint16), ("kind", c_uint8),
+        ("code", c_uint8),
+    ]
 
 
 class Served(Structure):
@@ -55,7 +61,10 @@ class DcbState(Structure):
 
 
 class Record(Structure):
-    _fields_ = [("cylinder", c_uint16), ("head", c_uint16), ("number", c_uint8), ("key_length", c_uint8), ("data_length", c_uint16)]
+    _fields_ = [
+        ("cylinder", c_uint16), ("head", c_uint16), ("number", c_uint8), ("key_length", c_uint8),
+        ("data_length", c_uint16),
+    ]
 
 
 class Line(Structure):
@@ -71,7 +80,8 @@ NUMBERS = {
     "size": (c_size_t, 2 ** (8 * ctypes.sizeof(c_size_t)) - 1),
 }
 
-# The words after the site: numbers, `bytes` and `buffer` with their lengths, and `ref`, a pointer to a structure or a number.
+# The words after the site: numbers, `bytes` and `buffer` with their lengths, and `ref`, a pointer
+# to a structure or a number.
 CALLS = {
     "site_new": "u16 u32",
     "site_free": "",
@@ -114,7 +124,8 @@ CALLS = {
 
 
 def places() -> Iterator[str]:
-    """Where the library may be: EXCP_LIBRARY, beside the package, or out/library of the repository."""
+    """Where the library may be: EXCP_LIBRARY, beside the package, or out/library of the
+    repository."""
     if os.environ.get("EXCP_LIBRARY"):
         yield os.environ["EXCP_LIBRARY"]
         return
@@ -129,7 +140,8 @@ def library() -> Any:
     tried = list(places())
     place = next((it for it in tried if os.path.exists(it)), None)
     if place is None:
-        raise LibraryNotFound(f"there is no {' and no '.join(tried)}: build the library, or let EXCP_LIBRARY name it")
+        none = " and no ".join(tried)
+        raise LibraryNotFound(f"there is no {none}: build the library, or let EXCP_LIBRARY name it")
     try:
         found = ctypes.CDLL(place)
         declare(found)

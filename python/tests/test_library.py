@@ -10,7 +10,7 @@ import unittest
 
 from excp import library
 from excp.errors import Status
-from excp.site import Active, DcbPhase, Device, Kind, Method, Mode, ServedEnd
+from excp.values import Active, DcbPhase, Device, Kind, Method, Mode, ServedEnd
 
 HEADER = os.path.join(os.path.dirname(os.path.realpath(__file__)), "..", "..", "c", "excp.h")
 

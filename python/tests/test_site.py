@@ -366,7 +366,7 @@ class Mistakes(unittest.TestCase):
     def test_names(self):
         with Site() as site:
             disk, _ = a_disk(site)
-            none = excp.site.Unit(site, 1)
+            none = excp.unit.Unit(site, 1)
             self.rejected(Status.NO_UNIT, excp.ExcpError, none.take)
             self.rejected(Status.NO_TASK, excp.ExcpError, lambda: site.next_post(1))
             self.rejected(Status.NO_DCB, excp.NoDcb, disk.dcb(2).purge)

@@ -1,12 +1,11 @@
-"""The programs with words of a command line. The first word chooses the program, or `excp_job` before it.
+"""Words of a command line: those of the package, of excp_job, and of excp_tools.
 
-A fault of the words is reported in the text of `clap` with status 2, before any byte of the input is read.
+A fault of the words is reported with status 2, before any byte of the input is read.
 """
 
 import os
 import pty
 import re
-import shutil
 import subprocess
 import tempfile
 
@@ -43,62 +42,121 @@ REPORTS = [
 
 
 
+def wrong(word, text):
+    """The text on the options of a word of the package."""
+    return f"excp: {word}: {text}; excp {word} --help lists the options"
+
+
 def unknown(word, argument):
     """The text on an argument that a word of the package does not have."""
-    return f"excp: {word}: unrecognized arguments: {argument}; excp {word} --help lists the options"
+    return wrong(word, f"unrecognized arguments: {argument}")
 
 
-# Words that the program rejects, and the first line of its text.
+def excluded(word, option, other):
+    """The text on an option that does not go with another one."""
+    return wrong(word, f"argument --{option}: not allowed with argument --{other}")
+
+
+def no_number(word, option, value, least, most):
+    return wrong(word, f"argument --{option}: '{value}': expected a number from {least} to {most}")
+
+
+def no_unit_file(word, option, value):
+    return wrong(word, f"argument --{option}: '{value}': expected U=FILE, a unit from 0 to 63 and the name of a file")
+
+
+def needs(word, forms):
+    return wrong(word, f"--most-steps N needs {forms}")
+
+
+HIGHEST = 18_446_744_073_709_551_615
+
+# Pairs of options of a word that exclude each other, in the order in which they are typed if argparse says so.
+EXCLUSIVE = {
+    "report": [
+        *((form, other) for form in ("steps", "json", "html", "posts", "listing") for other in ("steps", "json", "html", "posts", "listing")),
+        *(("seed", other) for other in ("channels", "handlers")),
+        *(("listing", other) for other in ("seed", "save", "channels", "handlers")),
+    ],
+    "step": [("json", "trace"), ("json", "state"), ("html", "json"), ("html", "trace"), ("html", "state")],
+    "outcomes": [
+        *(("often", other) for other in ("most-seconds", "whole", "all", "outcome", "scenarios")),
+        *(("outcome", other) for other in ("whole", "all", "scenarios")),
+    ],
+}
+
+# A value for each option that takes one.
+VALUES = {"seed": ["1"], "channels": ["2"], "handlers": ["2"], "save": ["0=x"], "often": ["3"], "most-seconds": ["2"]}
+VALUES |= {"outcome": ["0", "0", "1", "1"], "scenarios": ["folder"]}
+
+# The ranges of numbers.
+RANGES = [
+    ("report", "channels", 1, 16),
+    ("report", "handlers", 1, 8),
+    ("report", "seed", 0, HIGHEST),
+    ("report", "most-steps", 1, HIGHEST),
+    ("step", "most-steps", 1, HIGHEST),
+    ("outcomes", "turn", 1, 65_535),
+    *(("outcomes", option, 1, 4_294_967_295) for option in ("most-states", "most-seconds", "often")),
+    ("outcomes", "seeds", 0, 4_294_967_295),
+]
+
+
+def exclusions():
+    """Words with two options that exclude each other, in either order, and the text on them."""
+    for word, pairs in EXCLUSIVE.items():
+        for option, other in pairs:
+            if option == other:
+                continue
+            typed = [f"--{option}", *VALUES.get(option, []), f"--{other}", *VALUES.get(other, [])]
+            yield [word, *typed], excluded(word, other, option)
+
+
+def past_ranges():
+    """Words with a number that is past its range, or none."""
+    for word, option, least, most in RANGES:
+        for value in (str(most + 1), str(least - 1), "", "x", "1.5", " 1", "0x2", "+1", "9" * 5000, "\u0661"):
+            yield [word, f"--{option}={value}"], no_number(word, option, value, least, most)
+
+
+# Words that a command rejects, and the first line of its text.
 REJECTED = [
     (["assemble", "read.symbolic", "other"], unknown("assemble", "other")),
     (["assemble", "--channels", "2"], unknown("assemble", "--channels")),
     (["assemble", "--steps"], unknown("assemble", "--steps")),
-    (["step", "--steps"], "error: unexpected argument '--steps' found"),
-    (["step", "--json", "--trace"], "error: the argument '--json' cannot be used with '--trace'"),
-    (["step", "--state", "--json"], "error: the argument '--state' cannot be used with '--json'"),
-    (["step", "--html", "--trace"], "error: the argument '--html' cannot be used with '--trace'"),
-    (["step", "--html", "--json"], "error: the argument '--html' cannot be used with '--json'"),
-    (["report", "--html", "--steps"], "error: the argument '--html' cannot be used with '--steps'"),
-    (["report", "--json", "--html"], "error: the argument '--json' cannot be used with '--html'"),
-    (["report", "--html", "--json"], "error: the argument '--html' cannot be used with '--json'"),
-    (["report", "--posts", "--json"], "error: the argument '--posts' cannot be used with '--json'"),
+    (["step", "--steps"], unknown("step", "--steps")),
+    *((["report", *words, "--most-steps", "2"], needs("report", "--steps or --json")) for words in ([], ["--html"], ["--posts"], ["--listing"])),
+    *((["step", *words, "--most-steps", "2"], needs("step", "--json")) for words in ([], ["--html"], ["--trace"])),
+    (["report", "--scenario", "x"], wrong("report", "--scenario FILE needs --seed N")),
+    (["check", "--save", "0=x"], unknown("check", "--save")),
+    (["outcomes", "--save", "0=x"], unknown("outcomes", "--save")),
     *(
-        (["report", "--listing", it], unknown("report", it))
-        for it in ("--steps", "--json", "--html", "--posts")
+        ([word, "--load", it], no_unit_file(word, "load", it))
+        for word, it in (("report", "x"), ("step", "64=x"), ("report", "=x"), ("report", "+1=x"), ("check", "0="), ("outcomes", "0"))
     ),
-    (["report", "--listing", "--seed", "1"], unknown("report", "--seed")),
-    (["report", "--listing", "--save", "0=x"], unknown("report", "--save")),
-    (["report", "--listing", "--channels", "2"], unknown("report", "--channels")),
-    (["report", "--listing", "--most-steps", "2"], unknown("report", "--most-steps")),
-    (["report", "--html", "--most-steps", "2"], "error: --most-steps N needs --steps or --json"),
-    (["report", "--posts", "--most-steps", "2"], "error: --most-steps N needs --steps or --json"),
-    (["report", "--posts", "--html"], "error: the argument '--posts' cannot be used with '--html'"),
-    (["step", "--most-steps", "1"], "error: --most-steps N needs --json"),
-    (["assembly"], "error: unrecognized subcommand 'assembly'"),
-    (["report", "--steps", "--steps"], "error: the argument '--steps' cannot be used multiple times"),
-    (["report", "--most-steps", "1"], "error: --most-steps N needs --steps or --json"),
-    (
-        ["report", "--steps", "--most-steps", "0"],
-        "error: invalid value '0' for '--most-steps <N>': 0 is not in 1..18446744073709551615",
-    ),
+    (["report", "--save", "64=x"], no_unit_file("report", "save", "64=x")),
+    (["check", "--load", "7=x", "--load", "7=y"], wrong("check", "--load names each unit once")),
+    (["outcomes", "--load", "7=x", "--load", "07=y"], wrong("outcomes", "--load names each unit once")),
+    (["report", "--save", "7=x", "--save", "7=y"], wrong("report", "--save names each unit once")),
+    (["outcomes", "--outcome", "0", "0", "1"], wrong("outcomes", "argument --outcome: expected 4 arguments")),
+    (["outcomes", "--outcome", "0", "0", "1", "x"], no_number("outcomes", "outcome", "x", 0, 4_294_967_295)),
+    (["convert", "--to", "aws", "x"], wrong("convert", "--to FORMAT and --output OUT go together")),
+    (["convert", "--output", "y", "x"], wrong("convert", "--to FORMAT and --output OUT go together")),
+    (["describe"], wrong("describe", "the following arguments are required: IMAGE")),
+    (["report", "--steps=1"], wrong("report", "argument --steps: ignored explicit argument '1'")),
+    (["report", "--channels", "-1"], no_number("report", "channels", "-1", 1, 16)),
+    (["report", "--channels"], wrong("report", "argument --channels: expected one argument")),
+    (["report", "--chan", "1"], unknown("report", "--chan")),
+    (["report", "read.script", "other"], unknown("report", "other")),
+]
+
+# Words that excp_job rejects, which has `run` alone.
+REJECTED_BY_JOB = [
+    *((["excp_job", it], f"error: unrecognized subcommand '{it}'") for it in ("walk", "report", "check", "step")),
+    (["excp_job", "--channels", "2", "run"], "error: unexpected argument '--channels' found"),
+    (["excp_job"], "error: 'excp_job' requires a subcommand but one was not provided"),
     (["run", "--steps"], "error: unexpected argument '--steps' found"),
     (["run", "--load", "0=x"], "error: unexpected argument '--load' found"),
-    (["check", "--save", "0=x"], unknown("check", "--save")),
-    (["report", "--posts", "--steps"], "error: the argument '--posts' cannot be used with '--steps'"),
-    *(
-        ([word, "--load", it], "error: --load and --save take U=FILE: a unit from 0 to 63, and the name of a file")
-        for word, it in (("report", "x"), ("step", "64=x"), ("report", "=x"), ("report", "+1=x"))
-    ),
-    (["check", "--load", "0="], "excp: --load takes U=FILE: a unit from 0 to 63, and the name of a file"),
-    (["check", "--load", "7=x", "--load", "7=y"], "excp: --load names each unit once"),
-    (["report", "--save", "7=x", "--save", "7=y"], "error: --load and --save name each unit once"),
-    (["convert", "--to", "aws", "x"], "excp: convert: --to FORMAT and --output OUT go together; excp convert --help lists the options"),
-    (["convert", "--output", "y", "x"], "excp: convert: --to FORMAT and --output OUT go together; excp convert --help lists the options"),
-    (["describe"], "excp: describe: the following arguments are required: IMAGE; excp describe --help lists the options"),
-    (["report", "--steps=1"], "error: unexpected value '1' for '--steps' found; no more were expected"),
-    (["report", "--channels", "17"], "error: invalid value '17' for '--channels <N>': 17 is not in 1..=16"),
-    (["report", "--handlers", "9"], "error: invalid value '9' for '--handlers <N>': 9 is not in 1..=8"),
-    (["report", "read.script", "other"], "error: unexpected argument 'other' found"),
     *(
         (["run", "--channels", it], f"error: invalid value '{it}' for '--channels <N>': {it} is not in 1..=16")
         for it in ("0", "17", "256", "4294967297")
@@ -121,31 +179,34 @@ REJECTED = [
     (["run", "--handlers", "-1"], "error: unexpected argument '-1' found"),
     (["run", "--workers", "2"], "error: unexpected argument '--workers' found"),
     (["run", "read.script"], "error: unexpected argument 'read.script' found"),
-    (["--channels", "2", "run"], "error: unexpected argument '--channels' found"),
-    (["walk"], "error: unrecognized subcommand 'walk'"),
-    ([], "error: 'excp' requires a subcommand but one was not provided"),
 ]
 
-# Words that excp_job rejects, which has `run` alone.
-REJECTED_BY_JOB = [
-    *((["excp_job", it], f"error: unrecognized subcommand '{it}'") for it in ("walk", "report", "check", "step")),
-    (["excp_job", "--channels", "2", "run"], "error: unexpected argument '--channels' found"),
-    (["excp_job"], "error: 'excp_job' requires a subcommand but one was not provided"),
+# Words that excp_tools rejects, which the package alone calls.
+REJECTED_BY_TOOLS = [
+    [],
+    ["--version"],
+    ["check"],
+    ["report", "--steps"],
+    ["report", "file"],
+    ["report", "form=pdf"],
+    ["report", "channels=x"],
+    ["report", "load=0"],
+    ["report", "load=x=3=name"],
+    ["report", "save=0=3"],
+    ["outcomes", "outcome=0,0,1"],
+    ["step", b"title=\xff"],
 ]
 
 # Words that ask for help, and texts that it has, each judged alone. Help of `run` and of the whole program goes to standard
 # error with status 2.
 HELP = [
-    *(
-        (
-            [[*program, it] for it in ("--help", "-h", "help")],
-            [
-                "Runs a script of EXCP requests",
-                f"Usage: {name} <COMMAND>",
-                "excp T U DCB IOB A SHOW LEN        task T issues a request, shows LEN bytes of it",
-            ],
-        )
-        for program, name in (([], "excp"), (["excp_job"], "excp_job"))
+    (
+        [["excp_job", it] for it in ("--help", "-h", "help")],
+        [
+            "Runs a script of EXCP requests",
+            "Usage: excp_job <COMMAND>",
+            "excp T U DCB IOB A SHOW LEN        task T issues a request, shows LEN bytes of it",
+        ],
     ),
     (
         [["run", "--help"], ["run", "-h"], ["excp_job", "help", "run"]],
@@ -160,18 +221,18 @@ HELP = [
 # Words that ask for the help of another subcommand, which goes to standard output with status 0, and texts that it has.
 HELP_OF_OWN = [
     (
-        [["assemble", "--help"], ["assemble", "-h"], ["help", "assemble"]],
+        [["assemble", "--help"], ["assemble", "-h"]],
         ["Prints the plain script of one with symbolic areas, or every fault of it", "Usage: excp assemble"],
     ),
     (
-        [["report", "--help"], ["help", "report"]],
+        [["report", "--help"], ["report", "-h"]],
         [
             "the history of each unit and what lies on its medium",
             "Every command of each history too",
             "How many channel workers serve the units, 1 to 16 [default: 1]",
         ],
     ),
-    ([["step", "--help"], ["help", "step"]], ["Carries out a scenario event by event, and prints each answer at once"]),
+    ([["step", "--help"], ["step", "-h"]], ["Carries out a scenario event by event, and prints each answer at once"]),
     ([["check", "--help"], ["check", "-h"]], ["Prints every fault of a script, and warnings, as FILE:LINE: TEXT"]),
 ]
 
@@ -229,28 +290,33 @@ def shows(setup, words, text):
     require(rest == read(STORED), "it read its input", ran)
 
 
+def rejects_words(setup, words):
+    """excp_tools prints one line on words that the package does not hand over, and reads nothing."""
+    with open(STORED, "rb") as it:
+        ran = run([setup.tools, *words], stdin=it)
+        require(os.lseek(it.fileno(), 0, os.SEEK_CUR) == 0, "it read its input", ran)
+    expect(ran, (2, "", "excp_tools is called by excp: type excp WORD, as in excp report FILE\n"))
+
+
+def are_rejected(setup, rows):
+    """The package rejects each of these words by its text."""
+    for words, text in rows:
+        expect(setup.run(*words), (2, "", f"{text}\n"))
+
+
 def is_without(said, setup, words, **how):
     """The program ends with status 1, no output, and this text."""
-    expect(run(setup.command(*words), **how), (1, "", f"excp_job: {said}\n"))
+    expect(run(setup.command(*words), **how), (1, "", f"excp: {said}\n"))
 
 
 def without_input(setup):
     is_without("script unreadable", setup, ["assemble"], stdin=None, preexec_fn=lambda: os.close(0))
 
 
-def with_folder(setup):
-    """Python itself does not start with a folder as standard input, so this asks a word of excp_tools."""
-    folder = os.open("/", os.O_RDONLY)
-    try:
-        is_without("script unreadable", setup, ["report"], stdin=folder)
-    finally:
-        os.close(folder)
-
-
 def with_full_output(setup):
     with open("/dev/full", "wb") as full, open(STORED, "rb") as script:
         ran = run(setup.command("assemble"), file=os.path.relpath(STORED, TOP), stdin=script, stdout=full)
-        expect(ran, (1, "", "excp_job: output not written\n"))
+        expect(ran, (1, "", "excp: output not written\n"))
 
 
 def of_file(setup, words, script):
@@ -270,32 +336,18 @@ def shows_own(setup, words, text):
 
 def as_stored(setup, word):
     """The help that `./excp` prints without the program is the program's own."""
-    expect(run(setup.command(word, "--help")), (0, read(f"{TOP}/docs/help/{word}.txt")))
+    expect(run(setup.command(word, "--help")), (0, read(f"{TOP}/python/excp/help/{word}.txt")))
 
 
 def prints_version(setup, word):
-    """The version of both programs is that of crates/run_options."""
+    """The version of excp_job is that of crates/run_options."""
     version = re.search(r'^pub const VERSION: &str = "(.*)";$', read(f"{TOP}/crates/run_options/src/lib.rt"), re.M)[1]
-    for name, program in (("excp_job", setup.program), ("excp_tools", setup.tools)):
-        expect(run([program, word]), (0, f"{name} {version}\n"))
+    expect(run([setup.program, word]), (0, f"excp_job {version}\n"))
 
 
 def of_unusable(setup, word, name, why):
     """A file that cannot be read has its own text."""
-    expect(run(setup.command(word, name)), (1, "", f"excp_job: {name}: {why}\n"))
-
-
-def of_locked(setup):
-    """A file that its user may not read: tried as another user if this one may read all."""
-    with tempfile.TemporaryDirectory() as work:
-        os.chmod(work, 0o755)
-        file = f"{work}/locked.script"
-        with open(file, "w", encoding="utf-8") as it:
-            it.write("tasks 1\n")
-        os.chmod(file, 0)
-        program = shutil.copy(setup.tools, work)
-        how = {"user": 65534, "group": 65534} if os.geteuid() == 0 else {}
-        expect(run([program, "check", file], **how), (1, "", f"excp_job: {file}: this user has no permission to read it\n"))
+    expect(run(setup.command(word, name)), (1, "", f"excp: {name}: {why}\n"))
 
 
 # Scripts that are rejected, each with a part of what `check` finds: by a line, by a medium, by extents, by a request, by what no line
@@ -345,26 +397,43 @@ def shows_control_characters(setup):
     name, shown = "a\x1b[31m\x07\x7f\n b\x9bé", "a\\x1b[31m\\x07\\x7f\\x0a b\\x9bé"
     with tempfile.TemporaryDirectory() as work:
         for word in "check", "report", "describe", "convert", "outcomes":
-            expect(run(setup.command(word, name), cwd=work), (1, "", f"excp_job: {shown}: there is no such file\n"))
+            expect(run(setup.command(word, name), cwd=work), (1, "", f"excp: {shown}: there is no such file\n"))
         with open(f"{work}/{name}", "w", encoding="utf-8") as it:
             it.write("tasks 1\nopne\n")
         found = f"{shown}:2: Words: no line begins with 'opne'; did you mean 'open'?\n{shown}: Order: "
         for words, output in (["check"], "out"), (["report"], "err"), (["step"], "err"), (["check", "--scenario"], "out"):
             ran = run(setup.command(*words, name), cwd=work)
             require(ran.status == 1 and getattr(ran, output).startswith(found[: found.index("\n") + 1]), "another name", ran)
-        expect(run(setup.command("describe", name), cwd=work), (1, "", f"excp_job: {shown}: {TEXT}\n"))
+        expect(run(setup.command("describe", name), cwd=work), (1, "", f"excp: {shown}: {TEXT}\n"))
         with open(f"{work}/tape{name}", "wb"):
             pass
         ran = run(setup.command("describe", f"tape{name}"), cwd=work)
         require(ran.status == 0 and ran.out.startswith(f"tape{shown}: tape image"), "another name", ran)
         for words in ["--save", f"1={name}"], ["--load", f"1=tape{name}"]:
             ran = run(setup.command("report", *words), "tasks 1\ntape 0 0 9\nwait 0\n", cwd=work)
-            require(ran.status == 1 and f"excp_job: {words[1].replace(name, shown)}: no line declares unit 1\n" == ran.err, "another name", ran)
+            require(ran.status == 1 and f"excp: {words[1].replace(name, shown)}: no line declares unit 1\n" == ran.err, "another name", ran)
 
 
 def not_utf8(setup, words, status, text):
-    """A word that is not UTF-8: of a file name and of the rest of the command line there are two texts."""
+    """A word for excp_job that is not UTF-8."""
     expect(run(setup.command(*words)), (status, "", f"excp_job: {text}\n"))
+
+
+def takes_odd_names(setup):
+    """A name that is not UTF-8 names a file as others do, and is printed with its bytes as they are."""
+    with tempfile.TemporaryDirectory() as work:
+        name = f"{work}/\udcff.script"
+        with open(name, "w", encoding="ascii") as it:
+            it.write("tasks 1\ntape 0 0 -\nopen 0 on\n")
+        with open(f"{work}/\udcfe", "wb"):
+            pass
+        expect(run(setup.command("assemble", name)), (0, "tasks 1\ntape 0 0 -\nopen 0 on\n"))
+        load = f"0={work}/\udcfe"
+        expect(run(setup.command("check", "--load", load, name)), (1, f"{name}:3: Number: word 3, 'on': expected in or out\n"))
+        expect(run(setup.command("check", "--load", f"{load}x", name)), (1, "", f"excp: {work}/\udcfex: there is no such file\n"))
+        ran = run(setup.command("describe", f"{work}/\udcfe"))
+        require((ran.status, ran.err) == (0, "") and ran.out.startswith(f"{work}/\udcfe: tape image"), "another name", ran)
+        expect(run(setup.command("check", "--\udcff")), (2, "", "excp: check: unrecognized arguments: --\udcff; excp check --help lists the options\n"))
 
 
 def without_reader(setup, words, file, status, said):
@@ -415,7 +484,7 @@ def marked(line, wanted):
 
 def cases(setup):
     def case(name, judge, *given, **named):
-        return Case(name, lambda: judge(*given, **named), "tests/groups/command_line.py, by docs/MANUAL.md and the texts of clap")
+        return Case(name, lambda: judge(*given, **named), "tests/groups/command_line.py, by docs/MANUAL.md, docs/help and the texts of argparse and clap")
 
     stored = read(POSTS)
     for words in ACCEPTED:
@@ -429,8 +498,6 @@ def cases(setup):
         yield case(f"{word} a file that is missing", of_unusable, setup, word, f"{none}.script", "there is no such file")
         yield case(f"{word} a file below a file", of_unusable, setup, word, f"{STORED}/none", "there is no such file")
         yield case(f"{word} a folder", of_unusable, setup, word, TOP, "it is a directory")
-        name = "the name of the script's file is not UTF-8: give the script as standard input"
-        yield case(f"{word} a file whose name is not UTF-8", not_utf8, setup, [word, b"/tmp/\xff"], 1, name)
         script = f"{SAMPLES}/read.script" if word == "check" else STORED
         yield case(f"{word} to a reader that is gone", without_reader, setup, [word], script, 0, "")
         yield case(f"the stored help of {word}", as_stored, setup, word)
@@ -438,9 +505,12 @@ def cases(setup):
         yield case(f"a script that {' '.join(words)} rejects", finds_what_check_finds, setup, words)
     yield case("a script that convert rejects", converts_what_check_takes, setup)
     yield case("control characters in names", shows_control_characters, setup)
-    yield case("check a file that may not be read", of_locked, setup)
-    for words in (["run", b"\xff"], [b"\xff"], ["report", "--channels", b"\xff"], ["check", b"--\xff"]):
-        yield case(f"not UTF-8: {words}", not_utf8, setup, words, 2, "a word of the command line is not UTF-8")
+    yield case("names that are not UTF-8", takes_odd_names, setup)
+    yield case("run with a word that is not UTF-8", not_utf8, setup, ["run", b"\xff"], 2, "a word of the command line is not UTF-8")
+    yield case("options that exclude each other", are_rejected, setup, exclusions())
+    yield case("numbers past their ranges", are_rejected, setup, past_ranges())
+    for words in REJECTED_BY_TOOLS:
+        yield case(f"excp_tools {words}", rejects_words, setup, words)
     yield case("run to a reader that is gone", without_reader, setup, ["run"], STORED, 1, "excp_job: output not written\n")
     yield case("check of faults to a reader that is gone", without_reader, setup, ["check"], f"{CASES}/refusals/check.script", 1, "")
     faults, script = f"{CASES}/refusals/check.script", f"{SAMPLES}/read.script"
@@ -455,7 +525,6 @@ def cases(setup):
     for words in (["--version"], ["-V"]):
         yield case(words[0], prints_version, setup, words[0])
     yield case("assemble with standard input closed", without_input, setup)
-    yield case("report with a folder as standard input", with_folder, setup)
     yield case("assemble to a full output", with_full_output, setup)
     for words in REPORTS:
         yield case(" ".join(words), reports, setup, words)

@@ -2,7 +2,7 @@
 examples; and whether the mutants still apply.
 
 tests/sentences measures the sentences, and tests/definitions finds names of definitions that several crates have. tests/closure
-has the definitions that the headline rests on. The layers of crates.txt, the steps of a request in ARCHITECTURE.md and the code
+has the definitions that the headline rests on, tests/lines the tables of the lines of a script. The layers of crates.txt, the steps of a request in ARCHITECTURE.md and the code
 that CLIENT.md and ADDING-A-DEVICE.md quote are compared with the sources, and so is what crates.txt lists. tests/comments measures
 the comments of the code, and finds phrases of tests/phrases. tools/refusals.py finds what each call rejects in its comment. tests/edits applies the mutants to the code as it is.
 tests/examples.py has the jobs and the commands of the pages. mypy, if it is installed, checks the types of python/excp. A README that names another kit is a warning.
@@ -188,6 +188,7 @@ def cases(setup):
     yield Case("the list of definitions", lambda: passes("definitions", "--self-test"), "tests/definitions, crates with known faults")
     yield Case("definitions of the headline", lambda: passes("closure", "--check"), "docs/PROVED.md, by tests/closure")
     yield Case("the list of the headline", lambda: passes("closure", "--self-test"), "tests/closure, specs with a known list")
+    yield Case("the lines of a script", lambda: passes("lines", "--check"), "docs/MANUAL.md, by python/excp/script")
     yield Case("what calls reject", lambda: passes("refusals.py", folder="tools"), "tools/refusals.py, by the comments of the calls")
     yield Case("edits of mutants", lambda: passes("edits"), "docs/TESTING.md, by tests/edits")
     yield Case("the rules of edits", lambda: passes("edits", "--self-test"), "tests/edits, edits with known faults")

@@ -20,7 +20,8 @@ import zlib
 
 import formats
 from excp.images.media import Disk
-from excp.images.reading import Unreadable, image_size, read_image
+from excp.images.measured import TapeFile, measured
+from excp.images.reading import Unreadable, read_image
 from harness import CASES, SAMPLES, SECONDS, Case, Failed, Skipped, expect, expect_text, read, require, run
 
 STORED = f"{CASES}/images"
@@ -88,7 +89,7 @@ def idle(kind):
 
 
 def program(setup, folder, *words, script="", seconds=SECONDS):
-    return run(setup.command(*words), script, cwd=folder, timeout=seconds)
+    return setup.run(*words, script=script, cwd=folder, timeout=seconds)
 
 
 def keeps(setup, folder, kind, name, saved="saved"):
@@ -216,9 +217,11 @@ def hetupd_reads(setup):
     """Hercules' hetupd makes a plain tape of a compressed one, and it is loaded; it reads what is saved."""
     with tempfile.TemporaryDirectory(prefix="images-") as folder:
         shutil.copy(f"{STORED}/w.het", f"{folder}/packed")
-        ran = program(setup, folder, "report", "--load", "0=packed", script=TAPE)
-        require(ran.status == 1 and "hetupd -d IN OUT" in ran.err and ": byte 0: " in ran.err, "no cure", ran)
         made("hetupd", "-d", "packed", "plain", cwd=folder)
+        ran = program(setup, folder, "report", "--posts", "--load", "0=packed", "--save", "0=unpacked", script=TAPE)
+        require(ran.status == 0, "not loaded", ran)
+        one, other = (formats.tape_of(bytes_of(f"{folder}/{it}")) for it in ("plain", "unpacked"))
+        require(one.items == other.items, "another tape than that of hetupd")
         keeps(setup, folder, "tape", "plain")
         made("hetupd", "-d", "saved", "again", cwd=folder)
         one, other = (formats.tape_of(bytes_of(f"{folder}/{it}")) for it in ("plain", "again"))
@@ -341,7 +344,7 @@ def are_judged(setup, images):
         for name, image in zip(names, images):
             write(f"{folder}/{name}", image)
         ran = program(setup, folder, "describe", *names, seconds=5 * SECONDS)
-        said = dict(re.findall(r"(?m)^excp_job: (\d+): (.*)$", ran.err))
+        said = dict(re.findall(r"(?m)^excp: (\d+): (.*)$", ran.err))
         taken = set(re.findall(r"(?m)^(\d+): (?:tape|disk) image", ran.out))
         require(ran.status in (0, 1), "the program did not end by itself", ran)
         for name, image in zip(names, images):
@@ -453,40 +456,57 @@ TAPE, DISK = idle("tape"), idle("disk")
 # The first blocks of an FBA disk of Hercules: the second one has the label.
 FBA = bytes(512) + "VOL1FBA001".encode("cp037").ljust(512, b"\0")
 
-# Files that are no image, and what is said of each: by `describe` and `convert` where `--load` says something else.
+# Files that are no image, and what is said of each.
 NO_IMAGES = [
     (TAPE.encode(), "this is a text, not an image; `convert --to` makes an image of a script"),
     ("é\r\n\tno script\n".encode(), "this is a text, not an image; `convert --to` makes an image of a script"),
-    (
-        b"\1\2\3\4\5\6\n",
-        "byte 0: the chunk is compressed; make a plain file by `hetupd -d IN OUT`, or the file is no image of a tape",
-        "byte 0: byte 5 of a header is 06, must be 00, or the file is no image of a tape",
-    ),
+    (b"\1\2\3\4\5\6\n", "byte 0: byte 5 of a header is 06, must be 00, or the file is no image of a tape"),
     (FBA, "this is an image of an FBA disk, which has blocks without count areas; CKD disks alone are supported"),
     (b"FBA_C370" + bytes(504), "this is an image of an FBA disk, which has blocks without count areas; CKD disks alone are supported"),
-    (
-        b"CKD_C370" + bytes(504),
-        "byte 0: the image is compressed; make a plain file by `dasdcopy -o ckd IN OUT`",
-        "byte 8: a disk has 1 to 65,535 heads, and this one 0",
-    ),
+    (b"CKD_C370" + bytes(504), "byte 8: a disk has 1 to 65,535 heads, and this one 0"),
     (b"CKD_C064" + bytes(504), "this is a compressed image of a disk (CCKD64); make a plain one, which begins with CKD_P370"),
     (b"CKD_S370" + bytes(504), "this is a shadow file of a compressed image of a disk (CCKD); make a plain image of both"),
     (b"CKD_P064" + bytes(504), "this is an image of a disk in the format CKD64; make one that begins with CKD_P370"),
     (
         b"CKD_P371" + bytes(504),
-        "byte 0: the file is no image of a disk: an image begins with `CKD_P370`",
         "byte 0: the file is no image of a disk: it begins with `CKD_P371`, must begin with `CKD_P370` or `CKD_C370`",
     ),
 ]
 
 
-def is_no_image(setup, data, loaded, *others):
+def is_no_image(setup, data, said):
     """`describe`, `convert` and `--load` say what a file is that is no image."""
-    said, *_ = *others, loaded
     with tempfile.TemporaryDirectory(prefix="images-") as folder:
         write(f"{folder}/it", data)
-        for words, text in (["describe", "it"], said), (["convert", "it"], said), (["report", "--load", "0=it"], loaded):
-            expect(program(setup, folder, *words, script=TAPE), (1, "", f"excp_job: it: {text}\n"))
+        for words in ["describe", "it"], ["convert", "it"], *([word, "--load", "0=it"] for word in ("check", "report", "step", "outcomes")):
+            expect(program(setup, folder, *words, script=TAPE), (1, "", f"excp: it: {said}\n"))
+
+
+def is_unpacked_to_be_loaded(setup, name, image, saved):
+    """A compressed image is loaded by each word, and saved as a plain one. No file is left, and none while it runs has a name."""
+    with tempfile.TemporaryDirectory(prefix="images-") as folder:
+        write(f"{folder}/it", image)
+        os.mkdir(f"{folder}/temporary")
+        words = setup.command("report", "--posts", "--load", "0=it", "--save", "0=saved")
+        how = {"cwd": folder, "env": {**os.environ, "TMPDIR": f"{folder}/temporary"}}
+        expect(run(words, idle(name), **how), (0, "end 0\n"))
+        require(bytes_of(f"{folder}/saved") == saved, "another image is saved")
+        for word, script in ("outcomes", idle(name)), ("step", idle(name).replace("wait 0", "finish")):
+            ran = run(setup.command(word, "--load", "0=it"), script, **how)
+            require((ran.status, ran.err) == (0, ""), "not loaded", ran)
+        require(os.listdir(f"{folder}/temporary") == [] and len(os.listdir(folder)) == 3, "a file is left")
+
+
+def unpacked():
+    """Compressed images: the kind of the medium, the image, and the plain one of the same medium."""
+    items = [b"FIRST" * 9, None, b"IN SEVERAL CHUNKS" * 9, None, None]
+    plain = formats.image_of(formats.Tape(items, [[len(it or b"")] for it in items]))
+    for method in 1, 2:
+        yield "tape", formats.packed_tape_of(items, method, 16), plain
+    packed = packed_volume()
+    volume = formats.volume_of(packed, True)
+    tracks = b"".join(formats.bytes_of(track, 120, *divmod(number, 2)) for number, track in enumerate(volume.tracks))
+    yield "disk", packed, b"CKD_P370" + packed[8:512] + tracks
 
 
 # Images that break a rule, and what is said of each: the finding, and then the rule.
@@ -515,7 +535,7 @@ def is_found(setup, data, said):
     with tempfile.TemporaryDirectory(prefix="images-") as folder:
         write(f"{folder}/it", data)
         ran = program(setup, folder, "describe", "it")
-        require((ran.status, ran.out) == (1, "") and ran.err.startswith(f"excp_job: it: {said}"), f"expected {said!r}", ran)
+        require((ran.status, ran.out) == (1, "") and ran.err.startswith(f"excp: it: {said}"), f"expected {said!r}", ran)
 
 
 # --- images changed at random, read in this process
@@ -590,7 +610,19 @@ def is_read(file, image):
         require([[tuple(it) for it in track] for track in found.tracks] == tracks, f"{image.hex()}: another disk")
     else:
         require(found.items == formats.tape_of(image, True).items, f"{image.hex()}: another tape")
-    require(image_size(file) == found.size, "another size")
+    has_measure(file, found)
+
+
+def has_measure(file, medium):
+    """What is measured of a file, none of whose bytes are kept, is right of this medium."""
+    image = measured(file)
+    if isinstance(medium, Disk):
+        require(image.size == medium.size, "another size")
+        require([image.track(number) for number in range(len(medium.tracks))] == medium.tracks, "other tracks")
+    else:
+        lengths = [len(item) for item in medium.items if item is not None]
+        used = sum(lengths) + 4 * len(medium.items)
+        require(image == TapeFile(used, min(lengths, default=None)), "another tape")
 
 
 def require_fault(image, is_disk):
@@ -616,7 +648,7 @@ def bombs(setup):
         with tempfile.TemporaryDirectory(prefix="images-") as folder:
             write(f"{folder}/it", image)
             words = ["bash", "-c", f"ulimit -v 200000; exec {shlex.join(setup.command('describe', 'it'))}"]
-            expect(run(words, cwd=folder), (1, "", f"excp_job: it: {said}\n"))
+            expect(run(words, cwd=folder), (1, "", f"excp: it: {said}\n"))
 
 
 def large_media_are_not_kept(setup):
@@ -628,7 +660,7 @@ def large_media_are_not_kept(setup):
         write(f"{folder}/it", tape)
         words = ["bash", "-c", f"ulimit -v 200000; exec {shlex.join(setup.command('convert', 'it'))}"]
         said = "a line of a script declares at most 16,777,216 bytes: use the image with --load"
-        expect(run(words, cwd=folder), (1, "", f"excp_job: it: {said}\n"))
+        expect(run(words, cwd=folder), (1, "", f"excp: it: {said}\n"))
 
 
 def output_may_be_standard_output(setup):
@@ -644,7 +676,7 @@ def output_may_be_standard_output(setup):
         ran = run(words, script, cwd=folder, stdout=child)
         os.close(child)
         os.close(parent)
-        said = "excp_job: standard output is a terminal: send the image to a file, by > or --output\n"
+        said = "excp: standard output is a terminal: send the image to a file, by > or --output\n"
         require((ran.status, ran.err, os.listdir(folder)) == (1, said, []), "no error, or a file", ran)
 
 
@@ -660,7 +692,7 @@ def has_trailing_bytes(setup):
     ]:
         with tempfile.TemporaryDirectory(prefix="images-") as folder:
             write(f"{folder}/it", image + rest)
-            expect(program(setup, folder, "describe", "it"), (1, "", f"excp_job: it: byte {offset}: {said}\n"))
+            expect(program(setup, folder, "describe", "it"), (1, "", f"excp: it: byte {offset}: {said}\n"))
 
 
 def empty_file_is_called_empty(setup):
@@ -679,8 +711,8 @@ def other_files_are_no_images(setup):
         os.mkfifo(f"{folder}/pipe")
         for name in "pipe", "/dev/zero", "/dev/null":
             for word in "describe", "convert":
-                expect(program(setup, folder, word, name, seconds=5), (1, "", f"excp_job: {name}: it is a device or a pipe\n"))
-        expect(program(setup, folder, "describe", "."), (1, "", "excp_job: .: it is a directory\n"))
+                expect(program(setup, folder, word, name, seconds=5), (1, "", f"excp: {name}: it is a device or a pipe\n"))
+        expect(program(setup, folder, "describe", "."), (1, "", "excp: .: it is a directory\n"))
         writer = threading.Thread(target=lambda: write(f"{folder}/pipe", b"tasks 1\ntape 0 0 9\nblock 0 C1C2\n"))
         writer.start()
         expect(program(setup, folder, "convert", "--to", "aws", "--output", "tape", "pipe", seconds=5), (0, ""))
@@ -711,7 +743,7 @@ def large_file_is_not_read(setup):
         write(f"{folder}/it", small_volume()[:512])
         os.truncate(f"{folder}/it", 1 << 40)
         said = "a line of a script declares at most 16,777,216 bytes: use the image with --load"
-        expect(program(setup, folder, "convert", "it", seconds=5), (1, "", f"excp_job: it: {said}\n"))
+        expect(program(setup, folder, "convert", "it", seconds=5), (1, "", f"excp: it: {said}\n"))
 
 
 def check_wants_a_unit_for_each_image(setup):
@@ -759,8 +791,8 @@ CONTENT = "the medium of this unit is an image: no line says what is on it\n"
 
 # Words, a script, and what is printed on standard error with status 1.
 REJECTED = [
-    (["report", "--load", "0=missing"], TAPE, "excp_job: missing: there is no such file\n"),
-    (["report", "--load", "0=."], TAPE, "excp_job: .: it is a directory\n"),
+    (["report", "--load", "0=missing"], TAPE, "excp: missing: there is no such file\n"),
+    (["report", "--load", "0=."], TAPE, "excp: .: it is a directory\n"),
     (["report", "--load", "0=disk"], TAPE, "<stdin>:2: Number: the image of this unit is a disk: expected a line 'disk U ISC -'\n"),
     (["report", "--load", "0=disk"], "tasks 1\ntape 0 0 9\n", "<stdin>:2: Medium: the image of this unit is a disk: expected a line 'disk"),
     (["outcomes", "--load", "0=tape"], DISK, "<stdin>:2: Words: the image of this unit is a tape: expected a line 'tape U ISC -'\n"),
@@ -768,8 +800,8 @@ REJECTED = [
     (["step", "--load", "0=tape"], DISK, "<stdin>:2: Words: the image of this unit is a tape: expected a line 'tape U ISC -'\n"),
     (["report", "--load", "0=tape"], DISK, "<stdin>:2: Words: the image of this unit is a tape: expected a line 'tape U ISC -'\n"),
     (["report", "--load", "1=tape"], TAPE, "<stdin>:2: Number: unit 0 has no size; name its image: --load 0=FILE\n"),
-    (["report", "--load", "0=tape", "--save", "1=other"], TAPE, "excp_job: 1=other: no line declares unit 1\n"),
-    (["report", "--load", "0=tape", "--load", "1=./tape"], TAPE, "excp_job: ./tape: it is named for two units\n"),
+    (["report", "--load", "0=tape", "--save", "1=other"], TAPE, "excp: 1=other: no line declares unit 1\n"),
+    (["report", "--load", "0=tape", "--load", "1=./tape"], TAPE, "excp: ./tape: it is named for two units\n"),
     (["report", "--load", "0=tape"], "tasks 1\ntape 0 0 20\nwait 0\n", "<stdin>:2: Medium: the tape holds 20 bytes, but its image needs 42\n"),
     (["report", "--load", "0=tape"], "tasks 1\ntape 0 0 -\nblock 0 C1\nwait 0\n", f"<stdin>:3: Medium: {CONTENT}"),
     (["report", "--load", "0=tape"], "tasks 1\ntape 0 0 -\nmark 0\nwait 0\n", f"<stdin>:3: Medium: {CONTENT}"),
@@ -777,13 +809,13 @@ REJECTED = [
     (["report", "--load", "0=disk"], "tasks 1\ndisk 0 0 2 1 106\nwait 0\n", "<stdin>:2: Medium: the image has 1 cylinder of 2 heads, and 106 bytes a track\n"),
     (["report"], TAPE, "<stdin>:2: Number: unit 0 has no size; name its image: --load 0=FILE\n"),
     (["run"], TAPE, "excp_job: line 2: Number\n"),
-    (["report", "--load", "0=tape", "--save", "0=none/there"], TAPE, "excp_job: none/there: there is no such directory\n"),
-    (["report", "--save", "0=new", "--save", "1=./new"], TAPE, "excp_job: ./new: it is named for two units\n"),
-    (["report", "--load", "1=new.excp-new", "--save", "0=new"], TAPE, "excp_job: new: it is named for two units\n"),
-    (["report", "--save", "0=new", "--save", "1=new.excp-new"], TAPE, "excp_job: new.excp-new: it is named for two units\n"),
-    (["report", "--load", "0=tape", "--save", "0=/dev/null"], TAPE, "excp_job: /dev/null: it is a device or a pipe\n"),
-    (["convert", "missing"], "", "excp_job: missing: there is no such file\n"),
-    (["describe", "missing", "disk"], "", "excp_job: missing: there is no such file\n"),
+    (["report", "--load", "0=tape", "--save", "0=none/there"], TAPE, "excp: none/there: there is no such directory\n"),
+    (["report", "--save", "0=new", "--save", "1=./new"], TAPE, "excp: ./new: it is named for two units\n"),
+    (["report", "--load", "1=new.excp-new", "--save", "0=new"], TAPE, "excp: new: it is named for two units\n"),
+    (["report", "--save", "0=new", "--save", "1=new.excp-new"], TAPE, "excp: new.excp-new: it is named for two units\n"),
+    (["report", "--load", "0=tape", "--save", "0=/dev/null"], TAPE, "excp: /dev/null: it is a device or a pipe\n"),
+    (["convert", "missing"], "", "excp: missing: there is no such file\n"),
+    (["describe", "missing", "disk"], "", "excp: missing: there is no such file\n"),
 ]
 
 
@@ -845,9 +877,9 @@ def full_disk_loses_nothing(setup):
     """If the file gets too large for its user, the old one stays, and no other is left."""
     with tempfile.TemporaryDirectory(prefix="images-") as folder:
         shutil.copy(f"{STORED}/w.aws", f"{folder}/tape")
-        words = f"trap '' XFSZ; ulimit -f 8; exec {setup.tools} report --posts --load 0=tape --save 0=tape"
+        words = f"ulimit -f 8; exec {shlex.join(setup.command('report', '--posts', '--load', '0=tape', '--save', '0=tape'))}"
         ran = run(["bash", "-c", words], TAPE, cwd=folder)
-        require(ran.status == 1 and "excp_job: " in ran.err and "larger" in ran.err, "no error", ran)
+        require(ran.status == 1 and "excp: " in ran.err and "larger" in ran.err, "no error", ran)
         require(bytes_of(f"{folder}/tape") == bytes_of(f"{STORED}/w.aws"), "the old file was changed")
         require(os.listdir(folder) == ["tape"], f"files left: {os.listdir(folder)}")
 
@@ -861,10 +893,10 @@ def full_file_system_loses_nothing(setup):
         mounted = f"mount -t tmpfs -o size={size} none small && cp tape small/"
         if run(["unshare", "-rm", "sh", "-c", mounted], cwd=folder).status:
             raise Skipped("no file system can be mounted here (unshare -rm)")
-        saved = f"{setup.tools} report --posts --load 0=small/tape --save 0=small/tape"
+        saved = shlex.join(setup.command("report", "--posts", "--load", "0=small/tape", "--save", "0=small/tape"))
         after = 'echo "status $?"; cmp small/tape tape && ls small'
         ran = run(["unshare", "-rm", "sh", "-c", f"{mounted} && {{ {saved}; {after}; }}"], TAPE, cwd=folder)
-        require(ran.err == "excp_job: small/tape: the disk is full\n", "no error", ran)
+        require(ran.err == "excp: small/tape: the disk is full\n", "no error", ran)
         expect_text("another file", ran, "end 0\nstatus 1\ntape\n", ran.out)
 
 
@@ -874,10 +906,10 @@ def model_is_asked_before_the_run(setup):
     with tempfile.TemporaryDirectory(prefix="images-") as folder:
         for word, rest in ("report", "wait 0\n"), ("step", "finish\n"):
             ran = program(setup, folder, word, "--save", "0=saved", script=script + rest)
-            said = "excp_job: saved: no model of a disk has 2 heads and 100 bytes a track; the models are 2305-1 (8, 14322)"
+            said = "excp: saved: no model of a disk has 2 heads and 100 bytes a track; the models are 2305-1 (8, 14322)"
             require((ran.status, ran.out) == (1, "") and ran.err.startswith(said), "it ran, or no error", ran)
             ran = program(setup, folder, word, "--save", "1=saved", script=script + rest)
-            expect(ran, (1, "", "excp_job: 1=saved: no line declares unit 1\n"))
+            expect(ran, (1, "", "excp: 1=saved: no line declares unit 1\n"))
             require(os.listdir(folder) == [], f"files left: {os.listdir(folder)}")
 
 
@@ -895,7 +927,7 @@ def progress_is_shown_on_a_terminal(setup):
         os.close(child)
         said = os.read(parent, 4096).decode()
         os.close(parent)
-        lines = [f"\rexcp_job: {name}: 64 MiB {done}\r\x1b[K" for name, done in (("tape", "read"), ("saved", "written"))]
+        lines = [f"\rexcp: {name}: 64 MiB {done}\r\x1b[K" for name, done in (("tape", "read"), ("saved", "written"))]
         require((ended.returncode, ended.stdout, said) == (0, b"end 0\n", "".join(lines)), f"other lines on the terminal: {said!r}")
 
 
@@ -973,8 +1005,10 @@ def cases(setup):
             yield Case(f"hostile: {name}, {number}", lambda p=part: are_judged(setup, p), ORIGIN)
     for seed in range(20):
         yield Case(f"tape at random {seed}", lambda s=seed: at_random(setup, s), ORIGIN)
-    for number, (data, *said) in enumerate(NO_IMAGES, 1):
-        yield Case(f"no image {number}: {said[0][:40]}", lambda d=data, s=said: is_no_image(setup, d, *s), "docs/FORMATS.md")
+    for number, (data, said) in enumerate(NO_IMAGES, 1):
+        yield Case(f"no image {number}: {said[:40]}", lambda d=data, s=said: is_no_image(setup, d, s), "docs/FORMATS.md")
+    for number, it in enumerate(unpacked(), 1):
+        yield Case(f"compressed image {number} is loaded", lambda it=it: is_unpacked_to_be_loaded(setup, *it), "docs/MANUAL.md, Images")
     for number, (data, said) in enumerate(FINDINGS, 1):
         yield Case(f"finding {number}: {said[:40]}", lambda d=data, s=said: is_found(setup, d, s), "docs/FORMATS.md")
     for words, script, said in REJECTED:

@@ -331,7 +331,7 @@ def prints_chosen(setup):
             expect(setup.run("outcomes", "--outcome", "0", "0", "1", str(number), script=script), (0, read(f"{folder}/post-0-0-1-{number}.scenario")))
     for task, unit, request, number in (0, 0, 1, 0), (0, 0, 1, 4), (0, 0, 2, 1), (1, 0, 1, 1), (0, 1, 1, 1), (70000, 0, 1, 1):
         ran = setup.run("outcomes", "--outcome", *map(str, (task, unit, request, number)), script=script)
-        expect(ran, (1, "", f"excp_job: no outcome {number} of request {request} of task {task} to unit {unit} was found\n"))
+        expect(ran, (1, "", f"excp: no outcome {number} of request {request} of task {task} to unit {unit} was found\n"))
 
 
 # A hint: the line of the request, those that race with it, and the changes with which it has one outcome.
@@ -487,7 +487,7 @@ def is_ended(setup):
 def says_it_was_cut(setup):
     """An outcome of a search that ended early may have another number in a longer one."""
     ran = setup.run("outcomes", "--outcome", "0", "0", "1", "1", "--most-states", "1", script=FEW)
-    require(ran.status in (1, 6) and "excp_job: the search ended early: " in ran.err, "it does not say that the search ended", ran)
+    require(ran.status in (1, 6) and "excp: the search ended early: " in ran.err, "it does not say that the search ended", ran)
 
 
 def is_quick(setup):
@@ -512,7 +512,7 @@ def leaves_its_script(setup):
                     os.remove(link)
                     os.symlink("a.script", link)
                 ran = setup.run("outcomes", "--whole", "--scenarios", folder, source)
-                require((ran.status, ran.err) == (1, f"excp_job: {link}: this command reads or saves it: name another file\n"),
+                require((ran.status, ran.err) == (1, f"excp: {link}: this command reads or saves it: name another file\n"),
                         "another message", ran)
                 require(read(source) == script, "the script is no longer what it was", ran)
 
@@ -521,14 +521,14 @@ def rejects_no_directory(setup):
     """Scenarios are written into a directory, not to a file."""
     with tempfile.NamedTemporaryFile() as it:
         ran = setup.run("outcomes", "--scenarios", it.name, script=DISK + OPEN + PLAIN + EXCP.format(0, 0))
-        expect(ran, (1, "", f"excp_job: {it.name}: it is not a directory\n"))
+        expect(ran, (1, "", f"excp: {it.name}: it is not a directory\n"))
 
 
 def rejects_no_unit(setup):
     """An image is loaded for a unit that the script declares."""
     image = f"{TOP}/{IMAGE}"
     ran = setup.run("outcomes", "--load", f"1={image}", script=DISK + OPEN + PLAIN + EXCP.format(0, 0))
-    expect(ran, (1, "", f"excp_job: 1={image}: no line declares unit 1\n"))
+    expect(ran, (1, "", f"excp: 1={image}: no line declares unit 1\n"))
 
 
 def cases(setup):

@@ -7,6 +7,7 @@ import ast
 import glob
 import os
 import random
+import re
 import subprocess
 import sys
 
@@ -26,7 +27,7 @@ ORIGIN = "docs/ARCHITECTURE.md: the command ends without a traceback for any inp
 FORM = "CONTRIBUTING.md, Python"
 
 # The parts of the package that have our form: at most so many lines a module and a function, and columns a line.
-FOLDERS = "command", "script", "symbols", "checking", "images", "files"
+FOLDERS = "command", "script", "symbols", "checking", "images", "files", "programs"
 MODULES = "__init__", "__main__", "device_commands", "findings"
 MODULE_LINES, FUNCTION_LINES, COLUMNS = 300, 30, 100
 
@@ -110,7 +111,7 @@ def ends_quietly(seed, scripts):
 
 def started(*words, **how):
     """A process that carries out words by the package."""
-    command = [sys.executable, f"{TOP}/tests/package.py", *words]
+    command = [f"{TOP}/excp", *words]
     return subprocess.run(command, stderr=subprocess.PIPE, timeout=60, **how)
 
 
@@ -141,18 +142,24 @@ def suggests(word, due):
 
 def needs_no_library():
     """A word loads neither the library nor what needs it."""
-    text = "import sys; sys.path.insert(0, sys.argv[1]); from excp.command.main import main; main(['check', sys.argv[2]]); "
+    text = "import sys; sys.path.insert(0, sys.argv[1]); from excp.command.main import main; main(['check', sys.argv[2]], None); "
     text += "print(*sorted(it for it in sys.modules if it in ('ctypes', 'excp.library', 'excp.site')))"
     command = [sys.executable, "-c", text, f"{TOP}/python", f"{TOP}/samples/read.script"]
     ran = subprocess.run(command, capture_output=True, timeout=60, check=False)
     require((ran.stdout, ran.stderr) == (b"\n", b""), f"another output: {ran.stdout!r} {ran.stderr!r}")
 
 
-def modules():
-    """The files of the package that have our form."""
-    folder = f"{TOP}/python/excp"
-    files = [f"{folder}/{name}.py" for name in MODULES]
-    return files + [file for it in FOLDERS for file in sorted(glob.glob(f"{folder}/{it}/**/*.py", recursive=True))]
+def has_all_commands():
+    """The table of commands that reports have, in Rattle, has those of the package, and no other."""
+    from excp.device_commands import DEVICE_COMMANDS
+
+    device, rows = "", set()
+    with open(f"{TOP}/crates/command_table/src/commands.rt", encoding="utf-8") as it:
+        for name, mnemonic, code, words in re.findall(r'static (\w+):|\("(\w+)", 0x(\w\w), "([^"]*)"\)', it.read()):
+            device = {"COMMON": "any"}.get(name, name.lower()) if name else device
+            rows |= {(device, mnemonic, int(code, 16), words)} if mnemonic else set()
+    due = {(it.device, it.mnemonic, it.code, it.words) for it in DEVICE_COMMANDS}
+    require(rows == due, f"not in both: {sorted(rows ^ due)}")
 
 
 def has_form(file):
@@ -178,8 +185,9 @@ def cases(setup):
         yield Case(f"{words[0]} {os.path.basename(words[1])} to a reader that is gone", lambda w=words: needs_no_reader(*w), ORIGIN)
     for words in (["check"], ["check", "--scenario"], ["assemble"], ["report", "--listing"]):
         yield Case(f"{' '.join(words)} of a program", lambda w=words: is_one_line(setup, *w), ORIGIN)
-    for word, due in ("chek", "did you mean 'check'?"), ("xyzzy", "./excp --help lists them"):
+    for word, due in ("chek", "did you mean 'check'?"), ("xyzzy", "excp --help lists them"):
         yield Case(f"a word that is none: {word}", lambda w=word, d=due: suggests(w, d), ORIGIN)
+    yield Case("the commands of reports", has_all_commands, "docs/SPECIFICATION.md, the tables of commands")
     yield Case("a word needs no library", needs_no_library, "python/excp/__init__.py")
-    for file in modules():
+    for file in sorted(glob.glob(f"{TOP}/python/excp/**/*.py", recursive=True)):
         yield Case(f"the form of {os.path.relpath(file, f'{TOP}/python')}", lambda f=file: has_form(f), FORM)

@@ -73,7 +73,7 @@ wait 0
 SIZES = {"small": 19_000_000, "different": 25_000_000}
 
 # The most memory that the run and its page take, in MiB.
-MEMORY = {"small": 20, "different": 30}
+MEMORY = {"small": 28, "different": 30}
 
 
 def page_of(setup, *words, script):

@@ -22,10 +22,11 @@ from harness import CASES, SAMPLES, TOP, Case, Failed, Skipped, read, require, r
 LIBRARY = f"{TOP}/out/refuse.so"
 STORED = f"{TOP}/crates/excp_job/stdin"
 POSTS = f"{TOP}/crates/excp_job/stdout"
-NO_MEMORY = "excp_job: out of memory\n"
+NO_MEMORY = "excp: out of memory\n"
+NO_MEMORY_OF_RUN = "excp_job: out of memory\n"
 
 # What `report` says if it cannot make a worker's thread; `run` has one text for both.
-NO_THREAD = "excp_job: no thread can be made for a worker, or out of memory\n"
+NO_THREAD = "excp: no thread can be made for a worker, or out of memory\n"
 
 # The images that a run loads, and the names under which it saves them.
 IMAGES = {"tape": small_tape(), "disk": small_volume()}
@@ -43,7 +44,7 @@ STEP = 3
 
 def lacked(ran):
     """What a run ran out of, as it says itself."""
-    if (ran.status, ran.err) == (3, NO_MEMORY):
+    if ran.status == 3 and ran.err in (NO_MEMORY, NO_MEMORY_OF_RUN):
         return "out of memory"
     return "no thread" if (ran.status, ran.err) == (3, NO_THREAD) and "report" in ran.words else None
 
@@ -76,21 +77,25 @@ def rejects_its_output(ran, text):
     return "output not written" if is_reported and text.startswith(ran.out) else None
 
 
-def saves_all_or_nothing(ran, text):
-    """It printed all and saved the images; or it could not write a file or ran out of memory, and all files are as before; or
-    it had no memory to print its posts, and saved all."""
-    before = {name: data for name, data in ran.files.items() if name in IMAGES}
+def fills_or_lacks(ran, text):
+    """It printed all and filled its files with the images; or it ran out of memory. The package keeps no file of such a run."""
     saved = {SAVED[name]: data for name, data in IMAGES.items()}
-    if before != IMAGES:
-        return None
     if (ran.status, ran.out, ran.files) == (0, text, {**IMAGES, **saved}):
         return "saved all"
-    if lacked(ran) and ran.files == IMAGES:
-        return "out of memory"
-    if lacked(ran) and not ran.out and ran.files == {**IMAGES, **saved}:
-        return "out of memory for the posts, saved all"
-    is_reported = ran.status == 1 and re.fullmatch(r"excp_job: .*saved_(tape|disk): the file cannot be written\n", ran.err)
-    return "not written" if is_reported and ran.files == IMAGES else None
+    return lacked(ran) if IMAGES.items() <= ran.files.items() else None
+
+
+# What the package says if it cannot make what the program reads.
+NO_INPUT = "excp: excp_tools cannot be run: Input/output error\n"
+
+
+def saves_all_or_nothing(ran, text):
+    """It printed all and saved the images; or it could not write a file, and all files are as before."""
+    saved = {SAVED[name]: data for name, data in IMAGES.items()}
+    if (ran.status, ran.out, ran.files) == (0, text, {**IMAGES, **saved}):
+        return "saved all"
+    is_reported = ran.err == NO_INPUT or re.fullmatch(r"excp: .*saved_(tape|disk): the file cannot be written\n", ran.err)
+    return "not written" if ran.status == 1 and is_reported and ran.files == IMAGES else None
 
 
 def saves_one_or_all(ran, text):
@@ -102,13 +107,17 @@ def saves_one_or_all(ran, text):
     return saves_all_or_nothing(ran, text)
 
 
+# The ends of what is killed, or starts a program that is.
+KILLED = -signal.SIGKILL, 128 + signal.SIGKILL
+
+
 def is_killed_whole(ran, _text):
     """It was killed. Each file that it saves to has the whole image or is not there, no other file changed, and a new file
     that is left has its documented name."""
     right = {**IMAGES, **{SAVED[name]: data for name, data in IMAGES.items()}}
     left = {f"{name}.excp-new" for name in SAVED.values()}
     is_whole = IMAGES.items() <= ran.files.items() and all(right.get(name) == data for name, data in ran.files.items() if name not in left)
-    if ran.status != -signal.SIGKILL or not is_whole:
+    if ran.status not in KILLED or not is_whole:
         return None
     return "killed, with a new file left" if left & ran.files.keys() else "killed"
 
@@ -158,7 +167,8 @@ def is_resumed_test(ran, text):
 @dataclass
 class Plan:
     """What is run with calls of a kind failing, how a run may end, and what the cases require of all runs together: how many
-    such calls there are, if `calls` is not 0, and in how many ways the runs end at least."""
+    such calls there are, if `calls` is not 0, and in how many ways the runs end at least. Each word `{NAME}` of one that is
+    `opened` becomes the number of this file, which is open for the program."""
 
     words: list
     judge: object
@@ -172,6 +182,7 @@ class Plan:
     calls: int = 0
     least: int = 1
     files: dict = field(default_factory=dict)
+    opened: dict = field(default_factory=dict)
     ways: dict = field(default_factory=dict)
 
     def run(self, *numbers):
@@ -184,7 +195,12 @@ class Plan:
             failing = " ".join(map(str, numbers))
             environment = {"LD_PRELOAD": LIBRARY, "REFUSE_KIND": self.kind, "REFUSE": failing, "CALLS": calls.name}
             file = "" if self.input == "/dev/null" else os.path.relpath(self.input, TOP)
-            ran = run(self.words, file=file, stdin=script, env={**os.environ, **environment}, cwd=folder)
+            opened = {name: os.open(f"{folder}/{name}", flags, 0o644) for name, flags in self.opened.items()}
+            words = [it.format(**opened) for it in self.words] if opened else self.words
+            how = {"stdin": script, "env": {**os.environ, **environment}, "cwd": folder, "pass_fds": list(opened.values())}
+            ran = run(words, file=file, **how)
+            for number in opened.values():
+                os.close(number)
             ran.failing = len(numbers)
             ran.files = {}
             for name in os.listdir(folder):
@@ -256,8 +272,9 @@ def long_posts(setup, work):
 def programs(setup):
     """The cases of programs: a name, and the plan or a call that gives it."""
     def plan(word, judge, script, text, *words, **more):
+        program = setup.program if word == "run" else setup.tools
         return f"{word} {os.path.relpath(script, TOP)} {' '.join(words)}".rstrip(), Plan(
-            setup.command(word, *words), judge, script, read(text), **more
+            [program, word, *words], judge, script, read(text), **more
         )
 
     for words in ((), ("--channels", "2"), ("--channels", "4", "--handlers", "3")):
@@ -270,24 +287,22 @@ def programs(setup):
     name, it = plan("report", reports_threads, f"{SAMPLES}/read.script", f"{SAMPLES}/read.report", kind="thread", calls=1)
     yield f"{name}: threads", it
     programs_end = f"{SAMPLES}/how-programs-end"
-    yield plan("report", prints_a_part, f"{programs_end}.script", f"{programs_end}.steps", "--steps")
+    yield plan("report", prints_a_part, f"{programs_end}.script", f"{programs_end}.steps", "form=steps")
     # the groups listing, reports and pages judge these texts
-    for form in "--json", "--html":
-        whole = setup.run("report", form, file=f"{programs_end}.script").out
-        words = setup.command("report", form)
-        yield f"report samples/how-programs-end.script {form}", Plan(words, prints_a_part, f"{programs_end}.script", whole)
-    for scenario in (f"{SAMPLES}/scenarios/halt-an-active-request.scenario", f"{CASES}/scenarios/purge_of_one_task_over_units_halt.scenario"):
-        for words in ["step", "--json"], ["step", "--html"]:
-            whole = setup.run(*words, file=scenario).out
-            yield f"{' '.join(words)} {os.path.relpath(scenario, TOP)}", Plan(setup.command(*words), prints_a_part, scenario, whole)
-    folder = f"{CASES}/refusals"
+    scenarios = f"{SAMPLES}/scenarios/halt-an-active-request.scenario", f"{CASES}/scenarios/purge_of_one_task_over_units_halt.scenario"
+    for word, script in ("report", f"{programs_end}.script"), *(("step", it) for it in scenarios):
+        for form in "json", "html":
+            whole = setup.run(word, f"--{form}", file=script).out
+            words = [setup.tools, word, "title=<stdin>", f"form={form}"]
+            yield f"{word} {os.path.relpath(script, TOP)} {form}", Plan(words, prints_a_part, script, whole)
+    script, text = f"{CASES}/refusals/images.script", f"{CASES}/refusals/images.posts"
+    files = [*(f"load={unit}={{{name}}}={name}" for unit, name in enumerate(IMAGES)), *(f"save={unit}={{{SAVED[name]}}}={name}" for unit, name in enumerate(IMAGES))]
+    opened = {**dict.fromkeys(IMAGES, os.O_RDONLY), **dict.fromkeys(SAVED.values(), os.O_WRONLY | os.O_CREAT)}
+    yield plan("report", fills_or_lacks, script, text, "form=posts", *files, files=IMAGES, opened=opened, least=2)
     loads = ["--load", "0=tape", "--load", "1=disk", "--save", "0=saved_tape", "--save", "1=saved_disk"]
-    script, text = f"{folder}/images.script", f"{folder}/images.posts"
-    yield plan("report", saves_all_or_nothing, script, text, "--posts", *loads, files=IMAGES, least=2)
-    name, it = plan("report", saves_one_or_all, script, text, "--posts", *loads, files=IMAGES, kind="file", least=2)
-    yield f"{name}: files", it
-    name, it = plan("report", is_killed_whole, script, text, "--posts", *loads, files=IMAGES, kind="kill")
-    yield f"{name}: kills", it
+    words = setup.command("report", "--posts", *loads)
+    for kind, judge, least in ("file", saves_one_or_all, 2), ("kill", is_killed_whole, 1):
+        yield f"report with images: each {kind}", Plan(words, judge, script, read(text), kind, files=IMAGES, least=least)
     client = f"{TOP}/crates/print_tape"
     yield "print_tape", Plan([f"{client}/out/print_tape"], is_program, text=read(f"{client}/stdout"))
 

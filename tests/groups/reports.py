@@ -283,7 +283,7 @@ def writes_to_its_end(setup, word, file):
     """A writer that fails is reported."""
     with open("/dev/full", "w", encoding="ascii") as full:
         ran = run(setup.command(word, "--json"), read(file), stdout=full)
-    expect(ran, (1, "", "excp_job: output not written\n"))
+    expect(ran, (1, "", "excp: output not written\n"))
 
 
 def stored():

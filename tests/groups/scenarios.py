@@ -69,10 +69,14 @@ def locked_steps(setup):
 
 
 def carried_out(setup, text, *views):
-    """Carries a scenario out, with locks and without: both print the same, also of the entries and the state of each unit after each
-    event, if `views` are the words for that."""
+    """Carries a scenario out, with locks and without: both answer the same, also of the entries and the state of each unit after
+    each event, if `views` are the words for that. Of a fault the program with locks says line and name alone."""
     ran, locked = setup.run("step", *views, script=text), run([locked_steps(setup), *views[:1]], text)
-    if (ran.status, ran.out, ran.err) != (locked.status, locked.out, locked.err):
+    said = [it for it in ran.err.splitlines(True) if "; answered: " in it]
+    for it in ran.err.splitlines()[len(said) :][:1]:
+        line, name = re.match("<stdin>:([0-9]*):? ([A-Za-z]+): ", it).groups()
+        said.append(f"excp_job: line {line or 0}: {name}\n")
+    if (ran.status, ran.out, "".join(said)) != (locked.status, locked.out, locked.err):
         raise Failed("with locks it prints something else", locked, ran.text(), locked.text())
     return ran
 
@@ -115,9 +119,7 @@ def is_rejected(setup, script, wanted):
         raise Failed("another outcome", ran, wanted, ran.err)
     faults = [it for it in wanted.splitlines(True) if "expected: " not in it]
     checked = setup.run("check", "--scenario", script=script)
-    # of a wrong number of words `check` says the right form too
-    first = re.sub("(and this one has [0-9]+): expected .*", r"\1", checked.out.partition("\n")[0])
-    if faults and f"{first}\n" != faults[0]:
+    if faults and f"{checked.out.partition(chr(10))[0]}\n" != faults[0]:
         raise Failed("`check --scenario` prints another fault first", checked, faults[0], checked.out)
     require(checked.status == (1 if faults else 0), "`check --scenario` ends with another status", checked)
 
@@ -149,7 +151,7 @@ def runs_out_of_memory(setup, has_locks, file, lacks, refusals):
     setup.skip_unproved()
     if lacks:
         raise Skipped(lacks)
-    words = [locked_steps(setup)] if has_locks else setup.command("step")
+    words = [locked_steps(setup)] if has_locks else [setup.tools, "step"]
     # the `expect` lines of the scenario judge this text
     plan = refusals.Plan(words, refusals.prints_a_part, file, run(words, read(file)).out)
     plan.judged(os.path.basename(words[0]), 1)
@@ -159,7 +161,7 @@ def with_full_output(setup, word):
     """A scenario, or the report of a script, whose output cannot be written."""
     with open("/dev/full", "wb") as full:
         ran = run(setup.command(word), "tasks 1\ndisk 0 0 1 1 40\n" + ("start 0\n" if word == "step" else ""), stdout=full)
-        expect(ran, (1, "", "excp_job: output not written\n"))
+        expect(ran, (1, "", "excp: output not written\n"))
 
 
 # --- scenarios that are made

@@ -80,7 +80,7 @@ def leaves_its_script(setup):
             with open(stdin or os.devnull, encoding="utf-8") as source:
                 ran = run(setup.command("report", "--posts", "--seed", "1", *words), stdin=source)
             name = words[words.index("--scenario") + 1]
-            expect(ran, (1, "", f"excp_job: {name}: {TAKEN}\n"))
+            expect(ran, (1, "", f"excp: {name}: {TAKEN}\n"))
             require(read(f"{folder}/a.script") == script, "the script is no longer what it was", ran)
 
 
@@ -92,7 +92,7 @@ def leaves_script_named_as_input(setup):
             it.write(script)
         words = "report", "--posts", "--seed", "1", "<stdin>", "--scenario", "./<stdin>"
         ran = run(setup.command(*words), cwd=folder)
-        expect(ran, (1, "", f"excp_job: ./<stdin>: {TAKEN}\n"))
+        expect(ran, (1, "", f"excp: ./<stdin>: {TAKEN}\n"))
         require(read(f"{folder}/<stdin>") == script, "the script is no longer what it was", ran)
 
 
@@ -108,7 +108,7 @@ def leaves_its_image(setup):
         os.symlink("new.aws", link)
         for option in "--save", "--load":
             ran = setup.run(*words[:-1], option, f"0={saved}", "--scenario", link, script=TAPE)
-            expect(ran, (1, "", f"excp_job: {link}: {TAKEN}\n"))
+            expect(ran, (1, "", f"excp: {link}: {TAKEN}\n"))
             with open(saved, "rb") as it:
                 require(it.read() == image, "the image is no longer what it was", ran)
         require(sorted(os.listdir(folder)) == ["link", "new.aws"], "a file is left", ran)

@@ -18,7 +18,7 @@ from excp.files.refusals import Unwritten
 from excp.files.targets import CHANGED, MOVED, OF_TWO_UNITS, TAPE, Output, Targets, UnitFile
 from excp.files.targets import TAKEN as TAKEN_BY_PACKAGE
 from groups.images import small_tape, small_volume, write_mark
-from groups.refusals import Plan, compiled, lacked
+from groups.refusals import KILLED, NO_INPUT, Plan, compiled
 from harness import SECONDS, Case, Skipped, expect, require, run
 
 ORIGIN = "docs/MANUAL.md, Files that are written"
@@ -119,17 +119,23 @@ class Target:
         return f"{self.folder}/{name or self.file}"
 
     def command(self, *more):
+        return self.setup.command(*self.typed(*more))
+
+    def typed(self, *more):
+        """The words as they are typed."""
         named = self.words.replace("FILE", self.file).replace("DIR", os.path.dirname(self.file)).split()
-        return self.setup.command(*named, *more, *([self.input] if self.input else []))
+        return [*named, *more, *([self.input] if self.input else [])]
 
     def run(self, *more):
-        return run([*self.before, *self.command(*more)], cwd=self.folder, **self.how)
+        if self.before:
+            return run([*self.before, *self.command(*more)], cwd=self.folder, **self.how)
+        return self.setup.run(*self.typed(*more), cwd=self.folder, **self.how)
 
     def is_refused(self, why, *more, name=""):
         """The call fails before the run, and changes nothing."""
         before = contents(self.folder)
         ran = self.run(*more)
-        expect(ran, (1, "", f"excp_job: {name or self.file}: {why}\n"))
+        expect(ran, (1, "", f"excp: {name or self.file}: {why}\n"))
         require(contents(self.folder) == before, "a file was changed", ran)
 
     def is_replaced(self, *more):
@@ -157,10 +163,8 @@ def is_empty(target):
 
 
 def over(text, target):
-    """Why a target that holds this is not replaced, if it is not. The words that run know no compressed tape."""
+    """Why a target that holds this is not replaced, if it is not."""
     content = CONTENTS[target.kind]
-    if text == "a compressed tape image" and not target.is_converted():
-        text = "other data or a damaged image"
     replaced = (content, "a tape image") if target.kind == "packed tape" else (content,)
     return None if text in replaced else f"it holds {text}, which {content} replaces only with --force"
 
@@ -314,7 +318,7 @@ def has_file_left(setup, name):
     """A new file that a killed run left is removed, and a line says so."""
     for target in targets_with(setup, name, left):
         ran = target.run()
-        said = f"excp_job: {target.file}: {target.file}.excp-new, which a run that was killed left, was removed\n"
+        said = f"excp: {target.file}: {target.file}.excp-new, which a run that was killed left, was removed\n"
         require((ran.status, ran.err) == (0, said), "another end", ran)
         require(os.listdir(target.path("out")) == [os.path.basename(target.file)], "a file is left", ran)
         with open(target.path(), "rb") as it:
@@ -409,7 +413,7 @@ def full_or_read_only(setup, name):
             old = BEFORE.get(target.kind, b"")
             write(target.path("old"), old)
             ran = in_small_file_system(target, prepare)
-            require((ran.status, ran.err) == (0, f"excp_job: {TARGET}: {why}\n1\n"), "another error", ran)
+            require((ran.status, ran.err) == (0, f"excp: {TARGET}: {why}\n1\n"), "another error", ran)
             require(ran.out.strip() == str(files), "a file is left", ran)
             after = contents(folder)
             require(after["after"][1] == old, "the target was changed", ran)
@@ -464,7 +468,7 @@ def is_as_it_was_read(setup):
                 else:
                     write(target.path("first"), b"notes")
                 _, said = ran.communicate(timeout=SECONDS)
-            require((ran.returncode, said.decode()) == (1, f"excp_job: {target.file}: {why}\n"), f"another end: {said}")
+            require((ran.returncode, said.decode()) == (1, f"excp: {target.file}: {why}\n"), f"another end: {said}")
             after = contents(folder)
             kept = (b"notes", b"notes") if "written" in why else (small_tape(), small_tape())
             require((after["first"][1], after["notes"][1]) == kept, "an image was replaced")
@@ -473,10 +477,82 @@ def is_as_it_was_read(setup):
 def is_kept(target, ran, why):
     """The call ends with an error, and the target has still what the other program wrote."""
     _, said = ran.communicate(timeout=SECONDS)
-    require((ran.returncode, said.decode()) == (1, f"excp_job: {target.file}: {why}\n"), f"another end: {said}")
+    require((ran.returncode, said.decode()) == (1, f"excp: {target.file}: {why}\n"), f"another end: {said}")
     require(os.listdir(target.path("out")) == [os.path.basename(target.file)], "a file is left")
     with open(target.path(), "rb") as it:
         require(it.read() == b"notes", "it was replaced")
+
+
+# --- which ends of a run save
+
+MARKED = f"tasks 1\ntape 0 0 1000\nopen 0 out\n{write_mark().partition('excp')[0]}"
+EVENTS = f"{EXCP}take 0\nserve 0\n"
+
+
+def dialog_learns_its_unit(setup):
+    """What a scenario of standard input saves is known once its lines come: what a target holds is judged after the run."""
+    with tempfile.TemporaryDirectory(prefix="targets-") as folder:
+        file = f"{folder}/saved"
+        words = setup.command("step", "--save", f"0={file}")
+        for old, why in (b"notes", "it holds text, which a tape image replaces only with --force"), (small_volume(), "it holds a disk image, which a"):
+            write(file, old)
+            ran = run(words, f"{MARKED}{EVENTS}finish\n")
+            require(ran.status == 1 and "finish: Finished 1\n" in ran.out, "not carried out", ran)
+            require(ran.err.startswith(f"excp: {file}: {why}"), "another error", ran)
+            require(contents(folder)["saved"][1] == old, "the target was changed", ran)
+        write(file, small_tape())
+        ran = run(words, f"{MARKED}{EVENTS}finish\n")
+        require((ran.status, ran.err) == (0, "") and is_written("tape", contents(folder)["saved"][1]), "not saved", ran)
+        require(os.listdir(folder) == ["saved"], "a file is left", ran)
+
+
+def unit_comes_after_an_event(setup):
+    """A scenario declares nothing after its first event: a unit that a line declares later is not declared for a file."""
+    text = "tasks 1\ndisk 0 0 1 1 40\ntake 0\ntape 1 0 1000\n"
+    with tempfile.TemporaryDirectory(prefix="targets-") as folder:
+        write(f"{folder}/in", text.encode())
+        for word in ["in"], []:
+            ran = run(setup.command("step", "--save", "1=saved", *word), text, cwd=folder)
+            expect(ran, (1, "", "excp: 1=saved: no line declares unit 1\n"))
+        require(os.listdir(folder) == ["in"], "a file is left")
+
+
+def compressed_image_is_kept(setup):
+    """A medium is saved as a plain image, which takes the place of the compressed one that it came from only with --force."""
+    with tempfile.TemporaryDirectory(prefix="targets-") as folder:
+        write(f"{folder}/tape", f"tasks 1\ntape 0 0 1000\nblock 0 {'C1' * 400}\n".encode())
+        write(f"{folder}/in", b"tasks 1\ntape 0 0 -\n")
+        expect(run(setup.command("convert", "--to", "het", "--output", "packed", "tape"), cwd=folder), (0, ""))
+        before = contents(folder)
+        words = setup.command("report", "--posts", "--load", "0=packed", "--save", "0=packed", "in")
+        why = "it holds a compressed tape image, which a tape image replaces only with --force"
+        expect(run(words, cwd=folder), (1, "", f"excp: packed: {why}\n"))
+        require(contents(folder) == before, "a file was changed")
+        expect(run([*words, "--force"], cwd=folder), (0, "end 0\n"))
+        require(formats.tape_of(contents(folder)["packed"][1]).items == [b"\xc1" * 400], "not saved")
+
+
+def unmet_expectation_saves(setup):
+    """A scenario of which an expectation is not met ends with status 1, and saves; one with a fault saves nothing."""
+    for end, is_saved in ("expect Nothing\nfinish\n", True), ("expect Nothing\n", True), ("expect Nothing\nfinnish\n", False), ("", True):
+        with tempfile.TemporaryDirectory(prefix="targets-") as folder:
+            ran = run(setup.command("step", "--save", "0=saved"), f"{MARKED}{EVENTS}{end}", cwd=folder)
+            require(ran.status == (1 if end else 0), "another status", ran)
+            require(os.listdir(folder) == (["saved"] if is_saved else []), "saved, or not", ran)
+
+
+def output_that_fails_saves_nothing(setup):
+    """A run whose output cannot be written saves nothing. If nothing reads it any more, `report` saves, and `step` ends before."""
+    for words, script, is_saved in ("report", f"tasks 1\n{MARK}".replace(OTHER, ""), True), ("step", f"{MARKED}{EVENTS}finish\n", False):
+        for status, said, output in (1, "excp: output not written\n", "/dev/full"), (0, "", ""):
+            reader, writer = (None, os.open(output, os.O_WRONLY)) if output else os.pipe()
+            if reader is not None:
+                os.close(reader)
+            with tempfile.TemporaryDirectory(prefix="targets-") as folder:
+                ran = run(setup.command(words, "--save", "0=saved"), script, cwd=folder, stdout=writer)
+                os.close(writer)
+                expect(ran, (status, "", said))
+                require(os.listdir(folder) == (["saved"] if is_saved and not output else []), "saved, or not", ran)
 
 
 # --- calls that fail, and kills
@@ -494,19 +570,17 @@ class Whole:
         is_new = files == {**self.files, self.target: self.written}
         if not is_new and files != self.files:
             return None
-        if ran.status == -signal.SIGKILL:
+        if ran.status in KILLED:
             return "killed"
-        if lacked(ran):
-            return "out of memory" if left is None else None
-        is_reported = ran.status == 1 and ran.err.removeprefix("excp_job: ").removeprefix("./").startswith(f"{self.target}: ")
+        of_target = ran.err.removeprefix("excp: ").removeprefix("./").startswith((f"{self.target}: ", ".: "))
+        is_reported = ran.status == 1 and (of_target or ran.err == NO_INPUT)
         if is_new and (ran.status, left) == (0, None):
             return "written"
         return "not written" if is_reported and left is None and not is_new else None
 
 
 def fails_in_turn(setup, name, kind):
-    """Each write, sync and rename of a word fails or kills it in turn, or each allocation fails. Its target is old or new, and
-    no other file changes."""
+    """Each write, sync and rename of a word fails or kills it in turn. Its target is old or new, and no other file changes."""
     lacks = compiled()
     if lacks:
         raise Skipped(lacks)
@@ -522,12 +596,19 @@ def fails_in_turn(setup, name, kind):
     return plan.judged(f"{name}, {kind}", 1)
 
 
+def ignored_hangup():
+    """A SIGHUP that is ignored, as by nohup. While it is held back, it stays pending."""
+    signal.signal(signal.SIGHUP, signal.SIG_IGN)
+    signal.raise_signal(signal.SIGHUP)
+
+
 # What a word of the package meets at a line, and how it may end then.
 MET = {
-    "out of memory": (lack_memory, 3, "excp_job: out of memory\n"),
+    "out of memory": (lack_memory, 3, "excp: out of memory\n"),
     "Ctrl-C": (lambda: signal.raise_signal(signal.SIGINT), 130, ""),
     "SIGTERM": (lambda: signal.raise_signal(signal.SIGTERM), -signal.SIGTERM, ""),
     "SIGHUP": (lambda: signal.raise_signal(signal.SIGHUP), -signal.SIGHUP, ""),
+    "an ignored SIGHUP": (ignored_hangup, 0, ""),
 }
 
 # The default form tries one of so many lines of the part of the package that writes files, the long form each line of all.
@@ -559,6 +640,7 @@ def is_met_at_each_line(setup, name, met):
         if (ran.status, ran.err) == (0, "") and status < 0:
             return None
         require((ran.status, ran.err) == (status, said), f"another end at line {number}", ran)
+        require(is_new or status != 0, f"not written at line {number}", ran)
         number += 1 if setup.is_long else STEP
 
 
@@ -604,14 +686,14 @@ def cases(setup):
     yield Case("is decided after the run", lambda: is_decided_after_the_run(setup), ORIGIN)
     yield Case("is as it was read", lambda: is_as_it_was_read(setup), ORIGIN)
     yield Case("image of a unit is kept", lambda: image_of_a_unit_is_kept(setup), ORIGIN)
+    for judge in unit_comes_after_an_event, compressed_image_is_kept, dialog_learns_its_unit, unmet_expectation_saves, output_that_fails_saves_nothing:
+        yield Case(judge.__name__.replace("_", " "), lambda j=judge: j(setup), ORIGIN)
     for name in WORDS:
         for made in MADE:
             yield Case(f"{name}: {made}", lambda n=name, m=made: is_judged(setup, n, m), ORIGIN)
         for judge in has_file_left, has_file_in_the_way, is_being_written, directory_is_missing, directory_is_not_writable, full_or_read_only:
             yield Case(f"{name}: {judge.__name__.replace('_', ' ')}", lambda n=name, j=judge: j(setup, n), ORIGIN)
-        # `refusals` has the growths of a save
-        growth = ["growth"] if name == "report, a scenario" else []
         for met in MET if name in ("convert to aws", "convert to ckd") else ():
             yield Case(f"{name}: {met} at each line", lambda n=name, m=met: is_met_at_each_line(setup, n, m), ORIGIN)
-        for kind in ["file", "kill", *growth]:
+        for kind in "file", "kill":
             yield Case(f"{name}: each {kind}", lambda n=name, k=kind: fails_in_turn(setup, n, k), ORIGIN)

@@ -10,13 +10,3 @@ pub const CCW_FLAGS: [(u8, &str); 6] = [
     (0x08, "PCI"),
     (0x04, "IDA"),
 ];
-
-/// The bit of the flag with this name.
-pub fn flag_bit(name: &[u8]) -> Option<u8> {
-    for (bit, flag) in CCW_FLAGS {
-        if flag.as_bytes() == name {
-            return Some(bit);
-        }
-    }
-    None
-}

@@ -1,11 +1,11 @@
 //! The names of commands and of the flags of a CCW. Each kind of device has codes, and each code a mnemonic and a
-//! name in words. Symbolic areas and pages use the mnemonics, and reports print the names: both come from the same tables.
+//! name in words: pages have the mnemonics, and reports the names.
 //!
-//! Tests: tests/cases/histories, tests/cases/assembler.
+//! Tests: tests/cases/histories.
 #![tactic(auto)]
 
 mod commands;
 mod flags;
 
-pub use commands::{code_of, command_name, command_named, mnemonic, mnemonics};
-pub use flags::{CCW_FLAGS, flag_bit};
+pub use commands::{command_name, mnemonic};
+pub use flags::CCW_FLAGS;

@@ -51,7 +51,7 @@ impl<'a> SearchWatch for Pace<'a> {
         if self.is_terminal && seconds >= FIRST && seconds != self.told {
             self.told = seconds;
             let _ = eprint!(self.rt;
-                "\r\x1b[Kexcp_job: {states} states, {} of {} MiB",
+                "\r\x1b[Kexcp: {states} states, {} of {} MiB",
                 bytes >> 20,
                 self.most_bytes >> 20
             );

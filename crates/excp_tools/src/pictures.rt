@@ -1,7 +1,6 @@
 //! A run in forms for programs and browsers.
 
 use any_device::AnyDevice;
-use job_options::Form;
 use job_report::unit_records;
 use job_script::{JobError, Script};
 use run_json::write_json;
@@ -11,6 +10,13 @@ use std::alloc::Global;
 use std::io::{BufWriter, Write};
 use unit_book::UnitBook;
 use unit_history::HistoryError;
+
+/// A form for programs and browsers: JSON with that many commands of each unit, or a page in HTML.
+#[derive(Clone, Copy)]
+pub enum Picture {
+    Json(u64),
+    Html,
+}
 
 /// What a run left: the record of each task, the books of the units, and for each unit the places of its entries in one order
 /// of all units, if the run has one.
@@ -27,11 +33,11 @@ pub fn print_script<'x, W: Write + Drop>(
     script: &'x Script,
     left: Left<'x>,
     title: &'x str,
-    form: Form,
+    picture: Picture,
     writer: W,
 ) -> Result<(), JobError> {
     let units = unit_records(alloc, &script.set_up, left.books, left.places)?;
-    match print_parts(alloc, title, left.tasks, &units, form, writer) {
+    match print_parts(alloc, title, left.tasks, &units, picture, writer) {
         Ok(()) => Ok(()),
         Err(HistoryError::NotWritten) => Err(JobError::NotWritten),
         Err(HistoryError::NoMemory) => Err(JobError::NoMemory),
@@ -44,7 +50,7 @@ fn print_parts<'x, W: Write + Drop>(
     title: &'x str,
     tasks: &'x [TaskRecord],
     units: &'x [UnitRecord<'x>],
-    form: Form,
+    picture: Picture,
     writer: W,
 ) -> Result<(), HistoryError> {
     let run = Run {
@@ -52,22 +58,22 @@ fn print_parts<'x, W: Write + Drop>(
         tasks,
         units,
     };
-    print_run(alloc, &run, form, writer)
+    print_run(alloc, &run, picture, writer)
 }
 
 /// Prints a run in a form.
 pub fn print_run<W: Write + Drop>(
     alloc: Global,
     run: &Run<'_>,
-    form: Form,
+    picture: Picture,
     writer: W,
 ) -> Result<(), HistoryError> {
     let Ok(mut out) = BufWriter::new(alloc, writer) else {
         return Err(HistoryError::NoMemory);
     };
-    match form {
-        Form::Json(most) => write_json(&mut out, alloc, run, most)?,
-        Form::Html => write_page(&mut out, alloc, run)?,
+    match picture {
+        Picture::Json(most) => write_json(&mut out, alloc, run, most)?,
+        Picture::Html => write_page(&mut out, alloc, run)?,
     }
     out.flush().or(Err(HistoryError::NotWritten))
 }

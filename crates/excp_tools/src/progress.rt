@@ -1,6 +1,6 @@
 //! How far the reading or writing of a large file is, on a terminal.
 
-use job_check::FileName;
+use job_step::FileName;
 use std::io::{IsTerminal, Read, Result, Write};
 
 /// How many bytes go by from one line of progress to the next, and before the first.
@@ -41,12 +41,17 @@ impl<'a, F> Progress<'a, F> {
         if self.is_terminal && steps != self.steps {
             self.steps = steps;
             let _ = eprint!(self.rt;
-                "\rexcp_job: {}: {} MiB {}",
+                "\rexcp: {}: {} MiB {}",
                 FileName(self.name),
                 self.bytes >> 20,
                 self.done
             );
         }
+    }
+
+    /// The file itself.
+    pub fn file(&self) -> &F {
+        &self.file
     }
 
     /// Removes the line.

@@ -1,154 +1,98 @@
-//! A run of a script, on threads or by a seed, and its report; or the listing of a script.
+//! A run of a script, on threads or by a seed, and its report.
 
-use crate::pictures::{Left, print_script};
-use crate::rejected::{ReadScript, with_findings};
-use crate::saver::{Medium, Saver};
+use crate::pictures::{Left, Picture, print_script};
+use crate::saver::{Medium, Saver, fits, write_text};
 use crate::screen::Screen;
-use crate::script::{SizedScript, plain_script_of, sized};
-use crate::target::{Output, Targets};
-use crate::{REJECTED, takes_colour, workers};
+use crate::script::{SizedScript, read_sized};
+use crate::words::{Form, Words};
+use crate::{UNFIT, takes_colour};
 use any_device::AnyDevice;
-use job_listing::write_listing;
 use job_media::{MountedImages, mount_images};
-use job_options::{Print, RunFiles};
 use job_script::{JobError, Script};
 use medium_image::{Image, Kept};
 use recorded_run::{report_posts, run_recorded, write_report};
-use run_options::Counts;
 use run_record::write_posts;
 use std::cell::Cell;
-use std::io::{BufWriter, Read, Stdout, Write};
+use std::io::{BufWriter, Stdout, Write};
 use std::sync::Wait;
 use std::thread::Threads;
 use stepped_run::run_seeded;
 use unit_book::UnitBook;
 
-/// What is asked of a report, and the name of its script.
-#[derive(Clone, Copy)]
-pub struct ReportOrder<'a> {
-    pub counts: Counts,
-    pub print: Print,
-    pub seed: Option<u64>,
-    pub files: &'a RunFiles,
-    pub targets: &'a Targets<'a>,
-    pub name: &'a str,
-    /// Set once nothing reads any more what is printed.
-    pub is_broken: &'a Cell<bool>,
-}
+/// Standard output, for a report in words.
+type Output<'a> = BufWriter<Screen<'a, Stdout>>;
 
-/// Runs a script, prints its posts and what the run left behind, and saves media.
-pub fn report<R: Threads + Wait + Sync, I: Read>(
+/// Runs the script of standard input, prints its posts and what the run left behind, and saves media. Returns the exit status.
+/// `is_broken` is set once nothing reads any more what is printed.
+pub fn report<R: Threads + Wait + Sync>(
     rt: &HostRuntime,
     threads: &R,
-    input: &mut I,
-    asked: ReportOrder<'_>,
+    words: &Words,
     images: Vec<Option<Image>>,
+    is_broken: &Cell<bool>,
 ) -> Result<u8, JobError> {
-    if let Some(name) = &asked.files.scenario {
-        let status = asked.targets.allows(Output::text(name.as_str()));
-        if status != 0 {
-            return Ok(status);
-        }
-    }
-    let Some(read) = plain_script_of(rt, input, &images, asked.name)? else {
-        return Ok(REJECTED);
+    let is_plain = images.is_empty() && words.saves.is_empty() && words.seed.is_none();
+    let steps = match words.form {
+        Form::Text if is_plain => None,
+        Form::Steps if is_plain => Some(words.most),
+        _ => return report_parsed(rt, threads, words, images, is_broken),
     };
-    let done = report_text(rt, threads, &read.script, asked, images);
-    let script = ReadScript {
-        name: asked.name,
-        read: &read,
-        loads: &asked.files.loads,
-    };
-    with_findings(rt, done, script)
-}
-
-/// Prints the report of the script of this text, and returns the exit status.
-fn report_text<R: Threads + Wait + Sync>(
-    rt: &HostRuntime,
-    threads: &R,
-    text: &[u8],
-    asked: ReportOrder<'_>,
-    images: Vec<Option<Image>>,
-) -> Result<u8, JobError> {
-    let is_plain = images.is_empty() && asked.files.saves.is_empty() && asked.seed.is_none();
-    let steps = match asked.print {
-        Print::Report if is_plain => None,
-        Print::Steps(most) if is_plain => Some(most),
-        Print::Listing => return list(rt, text, asked, &images),
-        _ => return report_parsed(rt, threads, text, asked, images),
-    };
-    let mut out = screen(rt, asked)?;
-    let mut input = text;
+    let mut out = screen(rt, is_broken)?;
     let mut run = report_posts(
         threads,
         rt.alloc(),
-        &mut input,
+        &mut rt.stdin(),
         &mut out,
-        workers(asked.counts),
+        words.workers(),
     )?;
     run.write_rest(steps, &mut out)?;
     Ok(0)
 }
 
-/// Prints the listing of a script, and runs nothing.
-fn list(
-    rt: &HostRuntime,
-    text: &[u8],
-    asked: ReportOrder<'_>,
-    images: &[Option<Image>],
-) -> Result<u8, JobError> {
-    let SizedScript { text: _, script } = sized(rt.alloc(), text, images)?;
-    let mut out = screen(rt, asked)?;
-    write_listing(rt.alloc(), text, &script, &mut out)?;
-    Ok(0)
-}
-
-/// Prints the report of a script with media from images, in another form, or by a seed. Returns the exit status.
+/// Prints the report of a script with media from images, in another form, or by a seed.
 fn report_parsed<R: Threads + Wait + Sync>(
     rt: &HostRuntime,
     threads: &R,
-    text: &[u8],
-    asked: ReportOrder<'_>,
+    words: &Words,
     images: Vec<Option<Image>>,
+    is_broken: &Cell<bool>,
 ) -> Result<u8, JobError> {
     let alloc = rt.alloc();
-    let SizedScript { text, script } = sized(alloc, text, &images)?;
-    let mut saver = Saver::new(rt, asked.files, asked.targets);
-    if !saver.begin(&script.set_up.units) {
-        return Ok(saver.finish());
+    let SizedScript { text, script } = read_sized(alloc, &mut rt.stdin(), &images)?;
+    if !fits(alloc, words, &script.set_up.units) {
+        return Ok(UNFIT);
     }
     let MountedImages { devices, kept } = mount_images(alloc, &script.set_up.units, images)?;
-    let printed = match asked.seed {
+    let mut saver = Saver::new(rt, words);
+    let printed = match words.seed {
         Some(seed) => {
-            let scenario = &asked.files.scenario;
-            let run = run_seeded(alloc, &text, &script, devices, seed, scenario.is_some())?;
-            if let Some(name) = scenario {
-                saver.fail(
-                    asked
-                        .targets
-                        .replace(Output::text(name.as_str()), &run.scenario),
-                );
+            let schedule = &words.schedule;
+            let run = run_seeded(alloc, &text, &script, devices, seed, schedule.is_some())?;
+            if let Some(file) = schedule {
+                saver.status = write_text(rt, file, &run.scenario);
             }
             let left = Left {
                 tasks: &run.past.tasks,
                 books: &run.books,
                 places: Some(&run.past.order.units),
             };
-            print_and_save(rt, &script, left, asked, &mut saver, &kept)
+            print_and_save(rt, &script, left, words, is_broken, &mut saver, &kept)
         }
         None => {
-            let run = run_recorded(threads, alloc, &script, devices, workers(asked.counts))?;
+            let run = run_recorded(threads, alloc, &script, devices, words.workers())?;
             let left = Left {
                 tasks: &run.tasks,
                 books: run.report.units(),
                 places: None,
             };
-            print_and_save(rt, &script, left, asked, &mut saver, &kept)
+            print_and_save(rt, &script, left, words, is_broken, &mut saver, &kept)
         }
     };
-    let saved = saver.finish();
-    printed?;
-    Ok(saved)
+    match printed {
+        // the media are saved, although nothing reads the report
+        Err(JobError::NotWritten) if is_broken.get() => Ok(saver.status),
+        _ => printed.map(|()| saver.status),
+    }
 }
 
 /// Prints what a run left, and saves its media.
@@ -156,11 +100,12 @@ fn print_and_save(
     rt: &HostRuntime,
     script: &Script,
     left: Left<'_>,
-    asked: ReportOrder<'_>,
+    words: &Words,
+    is_broken: &Cell<bool>,
     saver: &mut Saver<'_>,
     kept: &[Option<Kept>],
 ) -> Result<(), JobError> {
-    let printed = print_report(rt, script, left, asked);
+    let printed = print_report(rt, script, left, words, is_broken);
     save_media(saver, left.books, kept);
     printed
 }
@@ -170,18 +115,26 @@ fn print_report(
     rt: &HostRuntime,
     script: &Script,
     left: Left<'_>,
-    asked: ReportOrder<'_>,
+    words: &Words,
+    is_broken: &Cell<bool>,
 ) -> Result<(), JobError> {
-    let steps = match asked.print {
-        Print::Posts => return print_posts(rt, left, asked),
-        Print::Report | Print::Listing => None,
-        Print::Steps(most) => Some(most),
-        Print::As(form) => {
-            let screen = Screen::new(rt.stdout(), false, asked.is_broken);
-            return print_script(rt.alloc(), script, left, asked.name, form, screen);
+    let steps = match words.form {
+        Form::Posts => return print_posts(rt, left, is_broken),
+        Form::Text => None,
+        Form::Steps => Some(words.most),
+        Form::Json => {
+            return print_as(
+                Picture::Json(words.most),
+                rt,
+                script,
+                left,
+                words,
+                is_broken,
+            );
         }
+        Form::Html => return print_as(Picture::Html, rt, script, left, words, is_broken),
     };
-    let mut out = screen(rt, asked)?;
+    let mut out = screen(rt, is_broken)?;
     write_report(
         rt.alloc(),
         left.tasks,
@@ -192,19 +145,29 @@ fn print_report(
     )
 }
 
+/// Prints a run in a form for programs and browsers.
+fn print_as(
+    picture: Picture,
+    rt: &HostRuntime,
+    script: &Script,
+    left: Left<'_>,
+    words: &Words,
+    is_broken: &Cell<bool>,
+) -> Result<(), JobError> {
+    let screen = Screen::new(rt.stdout(), false, is_broken);
+    let title = words.title.as_str();
+    print_script(rt.alloc(), script, left, title, picture, screen)
+}
+
 /// Prints the posts of a run alone.
-fn print_posts(rt: &HostRuntime, left: Left<'_>, asked: ReportOrder<'_>) -> Result<(), JobError> {
-    let mut out = screen(rt, asked)?;
+fn print_posts(rt: &HostRuntime, left: Left<'_>, is_broken: &Cell<bool>) -> Result<(), JobError> {
+    let mut out = screen(rt, is_broken)?;
     write_posts(&mut out, left.tasks).or(Err(JobError::NotWritten))?;
     out.flush().or(Err(JobError::NotWritten))
 }
 
-/// Standard output, for a report in words.
-fn screen<'a>(
-    rt: &HostRuntime,
-    asked: ReportOrder<'a>,
-) -> Result<BufWriter<Screen<'a, Stdout>>, JobError> {
-    let screen = Screen::new(rt.stdout(), takes_colour(rt, rt.stdout()), asked.is_broken);
+fn screen<'a>(rt: &HostRuntime, is_broken: &'a Cell<bool>) -> Result<Output<'a>, JobError> {
+    let screen = Screen::new(rt.stdout(), takes_colour(rt, rt.stdout()), is_broken);
     BufWriter::new(rt.alloc(), screen).or(Err(JobError::NoMemory))
 }
 

@@ -1,141 +1,277 @@
-//! The words of the command line, and what is printed if they cannot be used.
+//! The words that python/excp hands over: `WORD NAME=VALUE ..`. It has judged them, so each has a value of its form.
+//!
+//! A file is `FD=NAME`: the number under which the package has opened it, and its name in texts.
 
-use clap::Error;
-use clap::error::ErrorKind;
-use job_options::{Words, parse};
+ghost use Rattle.std.specs.Prelude.{◌≤◌};
+
+use job_run::Workers;
 use job_script::JobError;
 use std::alloc::{AllocError, Global};
-use std::env::{Env, FillError};
-use std::{env, io, str};
+use std::env;
+use std::io::ErrorKind;
 
-/// The exit status of a fault of the command line.
+/// The exit status of words that the package does not hand over.
 const USAGE: u8 = 2;
 
-/// The exit status of a file name that cannot be used.
-const REJECTED: u8 = 1;
+/// What is to be done with a script.
+#[derive(Clone, Copy)]
+pub enum Word {
+    Report,
+    Step,
+    Outcomes,
+}
 
-/// The most bytes of a word that is looked at. A file name has fewer.
-const MOST_BYTES: usize = 4096;
+/// The form of what is printed. Of a scenario, `Text` is its answers.
+#[derive(Clone, Copy)]
+pub enum Form {
+    Text,
+    Posts,
+    Steps,
+    Json,
+    Html,
+}
 
-/// The subcommands, each of which takes the name of a file.
-const FILED: [&[u8]; 7] = [
-    b"report",
-    b"check",
-    b"assemble",
-    b"step",
-    b"outcomes",
-    b"describe",
-    b"convert",
-];
+/// A file that the package has opened: its path, and its name in texts.
+#[derive(Drop)]
+pub struct OpenedFile {
+    pub path: String,
+    pub name: String,
+}
 
-/// The options that take a value.
-const VALUED: [&[u8]; 14] = [
-    b"--channels",
-    b"--handlers",
-    b"--most-steps",
-    b"--turn",
-    b"--most-states",
-    b"--most-seconds",
-    b"--seeds",
-    b"--often",
-    b"--scenarios",
-    b"--seed",
-    b"--load",
-    b"--save",
-    b"--to",
-    b"--output",
-];
+/// A unit, and the file that its medium is loaded from or saved to.
+#[derive(Drop)]
+pub struct UnitFile {
+    pub unit: u8,
+    pub file: OpenedFile,
+}
 
-/// Reads the command line, before any byte of the script is read; or prints why not, or the help that is asked for, and
-/// returns the exit status.
+/// An outcome: the numbers of its task, its unit and the request, and its own.
+#[derive(Clone, Copy)]
+pub struct OutcomePlace {
+    pub task: u32,
+    pub unit: u32,
+    pub request: u32,
+    pub number: u32,
+}
+
+/// What is asked for.
+#[derive(Drop)]
+pub struct Words {
+    pub word: Word,
+    /// The name of the script.
+    pub title: String,
+    pub form: Form,
+    /// The most commands of each unit that are printed.
+    pub most: u64,
+    pub loads: Vec<UnitFile>,
+    pub saves: Vec<UnitFile>,
+    channels: u8,
+    handlers: u8,
+    /// The seed of a schedule, if the run has one, and the file of its scenario.
+    pub seed: Option<u64>,
+    pub schedule: Option<OpenedFile>,
+    /// What is printed after each answer.
+    pub trace: bool,
+    pub state: bool,
+    /// How many commands a program does between two steps of others, the most states and seconds of a search, the runs by seeds that
+    /// it is compared with, and those that take its place.
+    pub turn: u32,
+    pub states: u32,
+    pub seconds: u64,
+    pub seeds: u32,
+    pub often: u32,
+    pub whole: bool,
+    pub all: bool,
+    pub outcome: Option<OutcomePlace>,
+    /// The file of all scenarios.
+    pub scenarios: Option<OpenedFile>,
+}
+
+impl Words {
+    /// Before any name is read.
+    fn new(alloc: Global, word: Word) -> Self {
+        Words {
+            word,
+            title: String::new(alloc),
+            form: Form::Text,
+            most: u64::MAX,
+            loads: Vec::new(alloc),
+            saves: Vec::new(alloc),
+            channels: 1,
+            handlers: 1,
+            seed: None,
+            schedule: None,
+            trace: false,
+            state: false,
+            turn: 64,
+            states: 1_000_000,
+            seconds: u64::MAX,
+            seeds: 20,
+            often: 0,
+            whole: false,
+            all: false,
+            outcome: None,
+            scenarios: None,
+        }
+    }
+
+    /// The numbers of workers.
+    pub fn workers(&self) -> Workers {
+        Workers {
+            channels: within(self.channels, 16),
+            handlers: within(self.handlers, 8),
+        }
+    }
+
+    /// Takes a name with its value. Returns whether there is such a one.
+    fn take(&mut self, alloc: Global, name: &str, value: &str) -> Result<bool, AllocError> {
+        match name {
+            "title" => self.title = String::from_str(alloc, value)?,
+            "load" => return added(alloc, &mut self.loads, value),
+            "save" => return added(alloc, &mut self.saves, value),
+            "schedule" => return put(&mut self.schedule, opened(alloc, value)?),
+            "scenarios" => return put(&mut self.scenarios, opened(alloc, value)?),
+            "trace" => self.trace = true,
+            "state" => self.state = true,
+            "whole" => self.whole = true,
+            "all" => self.all = true,
+            _ => return Ok(self.set(name, value).is_some()),
+        }
+        Ok(true)
+    }
+
+    /// Sets what a form or a number is the value of.
+    fn set(&mut self, name: &str, value: &str) -> Option<()> {
+        match name {
+            "form" => self.form = form_of(value)?,
+            "outcome" => self.outcome = Some(place_of(value)?),
+            "channels" => self.channels = value.parse().ok()?,
+            "handlers" => self.handlers = value.parse().ok()?,
+            "most" => self.most = value.parse().ok()?,
+            "seed" => self.seed = Some(value.parse().ok()?),
+            "turn" => self.turn = value.parse().ok()?,
+            "states" => self.states = value.parse().ok()?,
+            "seconds" => self.seconds = value.parse().ok()?,
+            "seeds" => self.seeds = value.parse().ok()?,
+            "often" => self.often = value.parse().ok()?,
+            _ => return None,
+        }
+        Some(())
+    }
+}
+
+/// A number from 1 to the most.
+fn within(number: u8, most: u8) -> u8
+    requires { 1 ≤ most }
+    ensures least { 1 ≤ result }
+    ensures most { result ≤ most }
+{
+    if number < 1 {
+        1
+    } else if number > most {
+        most
+    } else {
+        number
+    }
+}
+
+/// Reads the words, before any byte of the script. Error: the exit status, after its text was printed.
 pub fn read(rt: &HostRuntime) -> Result<Words, u8> {
-    let arguments = match env::args(rt) {
-        Ok(arguments) => arguments,
-        Err(error) if error.kind() == io::ErrorKind::OutOfMemory => {
-            return Err(ended_by(rt, JobError::NoMemory));
+    match words_of(rt) {
+        Ok(Some(words)) => Ok(words),
+        Ok(None) => {
+            let _ = eprintln!(rt;
+                "excp_tools is called by excp: type excp WORD, as in excp report FILE"
+            );
+            Err(USAGE)
         }
-        Err(_) => return Err(not_utf8(rt)),
+        Err(AllocError) => Err(crate::ended_by(rt, JobError::NoMemory)),
+    }
+}
+
+/// The words, if the package hands over such.
+fn words_of(rt: &HostRuntime) -> Result<Option<Words>, AllocError> {
+    let mut given = match env::args(rt) {
+        Ok(given) => given.skip(1),
+        Err(error) if error.kind() == ErrorKind::OutOfMemory => return Err(AllocError),
+        Err(_) => return Ok(None),
     };
-    let words: Result<Vec<String>, AllocError> = arguments.collect(rt.alloc());
-    match words {
-        Ok(words) => parse(rt.alloc(), words.as_slice()).map_err(|error| told(
-            rt,
-            words.as_slice(),
-            error,
-        )),
-        Err(_) => Err(ended_by(rt, JobError::NoMemory)),
-    }
-}
-
-/// Prints what `clap` says, and returns the exit status. Help of a subcommand, and the version, are what the user asked for;
-/// that of the whole program goes to standard error (profile).
-fn told(rt: &HostRuntime, words: &[String], error: Error) -> u8 {
-    match error.kind() {
-        ErrorKind::OutOfMemory => ended_by(rt, JobError::NoMemory),
-        ErrorKind::DisplayHelp if is_of_own(words) => printed(rt, &error),
-        ErrorKind::DisplayVersion => printed(rt, &error),
-        _ => {
-            let _ = eprint!(rt; "{error}");
-            USAGE
+    let Some(word) = given.next() else {
+        return Ok(None);
+    };
+    let Some(word) = word_of(word.as_str()) else {
+        return Ok(None);
+    };
+    let mut words = Words::new(rt.alloc(), word);
+    for word in given {
+        let (name, value) = word.split_once('=').unwrap_or((word.as_str(), ""));
+        if !words.take(rt.alloc(), name, value)? {
+            return Ok(None);
         }
     }
+    Ok(Some(words))
 }
 
-fn printed(rt: &HostRuntime, error: &Error) -> u8 {
-    match print!(rt; "{error}") {
-        Ok(()) => 0,
-        Err(_) => ended_by(rt, JobError::NotWritten),
+fn word_of(word: &str) -> Option<Word> {
+    match word {
+        "report" => Some(Word::Report),
+        "step" => Some(Word::Step),
+        "outcomes" => Some(Word::Outcomes),
+        _ => None,
     }
 }
 
-/// Whether the words, the program's name first, are of a subcommand.
-fn is_of_own(words: &[String]) -> bool {
-    let mut words = words
-        .iter()
-        .skip(1)
-        .map(|word| word.as_str())
-        .filter(|word| *word != "help");
-    match words.next() {
-        Some(word) => FILED.contains(&word.as_bytes()),
-        None => false,
+fn form_of(value: &str) -> Option<Form> {
+    match value {
+        "text" => Some(Form::Text),
+        "posts" => Some(Form::Posts),
+        "steps" => Some(Form::Steps),
+        "json" => Some(Form::Json),
+        "html" => Some(Form::Html),
+        _ => None,
     }
 }
 
-/// Prints that a word is not UTF-8, and returns the exit status: of a file name that of a file that is not read, else that
-/// of the command line.
-fn not_utf8(rt: &HostRuntime) -> u8 {
-    if is_file_not_utf8(rt) {
-        let _ = eprintln!(rt;
-            "excp_job: the name of the script's file is not UTF-8: give the script as standard input"
-        );
-        return REJECTED;
-    }
-    let _ = eprintln!(rt; "excp_job: a word of the command line is not UTF-8");
-    USAGE
+/// The outcome at `T,U,N,K`.
+fn place_of(value: &str) -> Option<OutcomePlace> {
+    let (task, rest) = value.split_once(',')?;
+    let (unit, rest) = rest.split_once(',')?;
+    let (request, number) = rest.split_once(',')?;
+    Some(OutcomePlace {
+        task: task.parse().ok()?,
+        unit: unit.parse().ok()?,
+        request: request.parse().ok()?,
+        number: number.parse().ok()?,
+    })
 }
 
-/// Whether the first word that is not UTF-8 names a file: it follows a subcommand that takes one, and is no option and no
-/// value of one.
-fn is_file_not_utf8(rt: &HostRuntime) -> bool {
-    let mut buffer = [0; MOST_BYTES];
-    let mut takes_file = false;
-    let mut is_value = false;
-    for place in 1..usize::MAX {
-        let Ok(count) = rt.arg(place, &mut buffer) else {
-            return false;
-        };
-        let word = &buffer[..count];
-        if str::from_utf8(word).is_err() {
-            return takes_file && !is_value && !word.starts_with(b"-");
-        }
-        takes_file |= place == 1 && FILED.contains(&word);
-        is_value = VALUED.contains(&word);
-    }
-    false
+/// The file of `FD=NAME`.
+fn opened(alloc: Global, value: &str) -> Result<Option<OpenedFile>, AllocError> {
+    let Some((descriptor, name)) = value.split_once('=') else {
+        return Ok(None);
+    };
+    let path = format!(in alloc; "/proc/self/fd/{descriptor}")?;
+    let name = String::from_str(alloc, name)?;
+    Ok(Some(OpenedFile { path, name }))
 }
 
-/// Prints why the program ends, and returns the exit status.
-pub fn ended_by(rt: &HostRuntime, fault: JobError) -> u8 {
-    let _ = eprintln!(rt; "excp_job: {fault}");
-    fault.status()
+/// Keeps a file. Returns whether there is one.
+fn put(place: &mut Option<OpenedFile>, file: Option<OpenedFile>) -> Result<bool, AllocError> {
+    *place = file;
+    Ok(place.is_some())
+}
+
+/// Adds the file of `U=FD=NAME`. Returns whether the value is one.
+fn added(alloc: Global, files: &mut Vec<UnitFile>, value: &str) -> Result<bool, AllocError> {
+    let Some((unit, file)) = value.split_once('=') else {
+        return Ok(false);
+    };
+    let Some(unit) = unit.parse().ok() else {
+        return Ok(false);
+    };
+    let Some(file) = opened(alloc, file)? else {
+        return Ok(false);
+    };
+    files.push(UnitFile { unit, file })?;
+    Ok(true)
 }

@@ -9,7 +9,7 @@ use Rattle.job_script.specs.declared.set_up.UnitSetup.{UnitSetup}
 use Rattle.medium_image.specs.declared.image.Image.{Image}
 use Rattle.medium_image.specs.declared.image.Kept.{Kept}
 use Rattle.job_media.specs.declared.mounting.MediaError.{MediaError}
-use Rattle.job_media.specs.declared.mounting.MediaError.TheVariants.{Line, NoMemory}
+use Rattle.job_media.specs.declared.mounting.MediaError.TheVariants.{Unit as AtUnit, NoMemory}
 use Rattle.job_media.specs.declared.units.MountedImages.{MountedImages}
 use Rattle.job_media.specs.Mounting.{AnswersMounting, AreListed, MountsAll, PerUnit, unit_has, units_have}
 
@@ -92,8 +92,8 @@ pub refused_next : (all : List (UnitSetup × Option Image)) (first units : List 
     (unit : UnitSetup) (image : Option Image) (mounted : MountedImages) (error : MediaError) → IsSoFar all (zip first second) mounted
     → first ≡ unit ∷ units → second ≡ image ∷ images → AnswersMounting (unit_has unit image) (Err error)
     → MountsAll (units_have all) (Err error)
-refused_next all first units second images unit image mounted (Line line reason) s is is' answer =
-    first_refused all (zip units images) (unit, image) s.before (Line line reason)
+refused_next all first units second images unit image mounted (AtUnit line) s is is' answer =
+    first_refused all (zip units images) (unit, image) s.before (AtUnit line)
     (s.so_far
     ∙ ap (λ (l : List (UnitSetup × Option Image)). after s.before (units_have l)) (zip-next first units second images unit image is is'))
     answer

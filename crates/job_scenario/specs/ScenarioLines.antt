@@ -1,9 +1,7 @@
 -- ONE LINE OF A SCENARIO: what it says by its words alone, or its first fault, Words or Number (profile).
-use Rattle.std.specs.Prelude.{◌≡◌, ℕ, List, codes, Option, Some, None, Result, Ok, Err, if◌then◌else◌}
+use Rattle.std.specs.Prelude.{ℕ, List, codes, Option, Some, None, Result, Ok, Err, if◌then◌else◌}
 use Rattle.std.specs.Str.{bytes_eq}
 use Rattle.script_words.specs.Text.{is_printable, words}
-use Rattle.job_script.specs.declared.cause.Refusal.{Refusal}
-use Rattle.job_script.specs.declared.cause.Refusal.TheVariants.{Caused, NoMemory}
 use Rattle.job_script.specs.declared.fault.FaultName.{FaultName}
 use Rattle.job_script.specs.declared.fault.FaultName.TheVariants as names
 use Rattle.job_script.specs.Steps.{◌>>=◌}
@@ -120,10 +118,3 @@ by_event_kind (Some verb) line text = by_event_verb verb (words text)
 -- the line with this number
 abbrev pub scenario_line : ℕ → List ℕ → Result ScenarioSaid FaultName
 scenario_line line text = by_event_kind (event_kind text) line text
-
--- two refusals have the same name, or both are out of memory
-abbrev pub IsNamedAs : Refusal → Refusal → Type 0
-IsNamedAs (Caused cause) (Caused other) = other.name ≡ cause.name
-IsNamedAs NoMemory NoMemory = Unit {0}
-IsNamedAs (Caused cause) NoMemory = ⊥
-IsNamedAs NoMemory (Caused other) = ⊥

@@ -15,5 +15,4 @@ mod words;
 pub use line::ScenarioLine;
 pub use room::RoomLine;
 pub use step::Step;
-pub use verb::begins_event;
 pub use words::{mode_word, write_step};

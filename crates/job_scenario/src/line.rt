@@ -5,26 +5,17 @@ ghost use Rattle.job_script.specs.Said.{says_command};
 ghost use Rattle.job_script.specs.Views.{command_said};
 ghost use Rattle.job_script.specs.Lines.{line_of};
 ghost use Rattle.job_script.specs.Outcomes.{Reads, ReadsAs, Returns, words_in};
-ghost use Rattle.job_scenario.specs.ScenarioLines.{IsNamedAs, by_event_verb, event_kind, no_wait, number_line, purge_at_line, room_line, run_line, scenario_line, with_no_wait};
+ghost use Rattle.job_scenario.specs.ScenarioLines.{by_event_verb, event_kind, no_wait, number_line, purge_at_line, room_line, run_line, scenario_line, with_no_wait};
 ghost use Rattle.job_scenario.specs.ScenarioSaid.{says_step, scenario_said};
 
 use crate::room::RoomLine;
 use crate::step::Step;
 use crate::verb::EventVerb;
 use job_script::forms::{has, has_least, index, mode_of, number_in};
-use job_script::{Action, Cause, Command, FaultName, Line, Refusal, Verb, is_symbolic};
+use job_script::{Action, Command, FaultName, Line, Refusal};
 use request_piece::Scope;
 use script_words::{Words, is_word};
 use std::alloc::Global;
-
-/// No line begins with this word.
-const UNKNOWN: &str =
-    "no line begins with '{w}': expected a set-up line, room, excp, purge, purgetask, close, reset, take, start, run, \
-    interrupt, deliver, collect, purgetaskat, settle, serve, finish or expect";
-
-/// A scenario has no `wait`.
-const NO_WAIT: &str =
-    "a scenario has no wait, since its events happen in the order of its lines: use 'collect {n}' to collect a post";
 
 /// A line of a scenario.
 #[derive(Drop)]
@@ -52,7 +43,7 @@ impl ScenarioLine {
 
     /// Reads a line that scripts do not have.
     #[tactic(auto, unfolding(crate::specs::ScenarioLines::by_event_verb))]
-    fn by_verb(verb: EventVerb, line: &Words<'_>) -> Result<ScenarioLine, Cause>
+    fn by_verb(verb: EventVerb, line: &Words<'_>) -> Result<ScenarioLine, FaultName>
         ensures { ReadsAs scenario_said result (by_event_verb verb (words_in line.now)) }
     {
         match verb {
@@ -94,7 +85,7 @@ fn of_script(alloc: Global, number: usize, line: &Words<'_>) -> Result<ScenarioL
     match Line::read(alloc, number, line) {
         Ok(Line::Command(command)) => of_command(command),
         Ok(read) => Ok(ScenarioLine::Script(read)),
-        Err(refusal) => Err(with_words_of_scenarios(refusal, line)),
+        Err(refusal) => Err(refusal),
     }
 }
 
@@ -103,17 +94,14 @@ fn of_command(command: Command) -> Result<ScenarioLine, Refusal>
     ensures { Returns scenario_said result (no_wait (says_command (command_said command))) }
 {
     match command.action {
-        Action::Wait => {
-            let task = u64::from(command.task);
-            Err(Refusal::Caused(Cause::new(FaultName::Words, NO_WAIT, &[task])))
-        }
+        Action::Wait => Err(Refusal::Fault(FaultName::Words)),
         _ => Ok(ScenarioLine::Script(Line::Command(command))),
     }
 }
 
 /// The number of a unit or a task, on a line of two words.
 #[tactic(auto, unfolding(crate::specs::ScenarioLines::number_line))]
-fn number_on(line: &Words<'_>) -> Result<u16, Cause>
+fn number_on(line: &Words<'_>) -> Result<u16, FaultName>
     ensures { Reads result (number_line (words_in line.now)) }
 {
     has(line, 2)?;
@@ -122,7 +110,7 @@ fn number_on(line: &Words<'_>) -> Result<u16, Cause>
 
 /// `run U N`
 #[tactic(auto, unfolding(crate::specs::ScenarioLines::run_line))]
-fn run_on(line: &Words<'_>) -> Result<Step, Cause>
+fn run_on(line: &Words<'_>) -> Result<Step, FaultName>
     ensures { ReadsAs says_step result (run_line (words_in line.now)) }
 {
     has(line, 3)?;
@@ -133,7 +121,7 @@ fn run_on(line: &Words<'_>) -> Result<Step, Cause>
 
 /// `purgetaskat T X MODE U`
 #[tactic(auto, unfolding(crate::specs::ScenarioLines::purge_at_line))]
-fn purge_on(line: &Words<'_>) -> Result<Step, Cause>
+fn purge_on(line: &Words<'_>) -> Result<Step, FaultName>
     ensures { ReadsAs says_step result (purge_at_line (words_in line.now)) }
 {
     has(line, 5)?;
@@ -151,7 +139,7 @@ fn purge_on(line: &Words<'_>) -> Result<Step, Cause>
 
 /// `room intake N`, `room post N` or `room book U N`
 #[tactic(auto, unfolding(crate::specs::ScenarioLines::room_line))]
-fn room_on(line: &Words<'_>) -> Result<RoomLine, Cause>
+fn room_on(line: &Words<'_>) -> Result<RoomLine, FaultName>
     ensures { Reads result (room_line (words_in line.now)) }
 {
     has_least(line, 2)?;
@@ -169,27 +157,5 @@ fn room_on(line: &Words<'_>) -> Result<RoomLine, Cause>
         let unit = index(line, 2)?;
         return Ok(RoomLine::Book(unit, number_in(line, 3, 1, 65535)?));
     }
-    Err(Cause::new(
-        FaultName::Number,
-        "word 2, '{w}': expected intake, post or book",
-        &[2],
-    ))
-}
-
-/// Why a line is rejected. If its first word is unknown, the text lists the first words of lines of a scenario.
-fn with_words_of_scenarios(refusal: Refusal, line: &Words<'_>) -> Refusal
-    ensures { IsNamedAs refusal result }
-{
-    match refusal {
-        Refusal::Caused(cause) if cause.name == FaultName::Words && is_unknown(line) => {
-            Refusal::Caused(Cause::new(FaultName::Words, UNKNOWN, &[1]))
-        }
-        _ => refusal,
-    }
-}
-
-/// Whether no line of a script begins with its first word, nor one of a symbolic area.
-fn is_unknown(line: &Words<'_>) -> bool {
-    let first = line.word(0);
-    line.is_printable() && Verb::of(first).is_none() && !is_symbolic(first)
+    Err(FaultName::Number)
 }

@@ -1,6 +1,6 @@
 //! The first word of a line that scripts do not have.
 
-ghost use Rattle.std.specs.Prelude.{◌≡◌, is_some};
+ghost use Rattle.std.specs.Prelude.{◌≡◌};
 ghost use Rattle.job_scenario.specs.EventVerbs.{event_verb_of};
 
 use script_words::is_word;
@@ -57,11 +57,4 @@ impl EventVerb {
         };
         Some(verb)
     }
-}
-
-/// Whether a line of a scenario, and none of a script, begins with this word.
-pub fn begins_event(word: &[u8]) -> bool
-    ensures { result ≡ is_some (event_verb_of word.now) }
-{
-    EventVerb::of(word).is_some()
 }

@@ -3,8 +3,8 @@ use Rattle.std.proofs.Common.{◌≡◌, ◌<◌, ◌≤◌, ℕ, zero, suc, Lis
 use Rattle.std.proofs.Common.{Ok, Err, OnErr, Result}
 use Rattle.std.proofs.lemmas.List.{length-map, map-set}
 use Rattle.job_script.specs.declared.command.DcbName.{DcbName}
-use Rattle.job_script.specs.declared.cause.Refusal.{Refusal}
-use Rattle.job_script.specs.declared.cause.Refusal.TheVariants.{Caused, NoMemory}
+use Rattle.job_script.specs.declared.refusal.Refusal.{Refusal}
+use Rattle.job_script.specs.declared.refusal.Refusal.TheVariants.{Fault, NoMemory}
 use Rattle.job_script.specs.declared.fault.FaultName.{FaultName}
 use Rattle.job_script.specs.declared.fault.FaultName.TheVariants as names
 use Rattle.job_script.specs.declared.set_up.UnitSetup.{UnitSetup}
@@ -53,8 +53,8 @@ pub changes : (r : Result (Unit {0}) Refusal) (change : UnitSaid → Result Unit
     → Leads r (unit_said new) (change (unit_said old)) → Leads r (record s { units = map unit_said (set units n new) })
     (change_unit n change s)
 changes (Ok x) change s units n old new e within is leads = changed change s units n old new e within (rw (sym is) leads)
-changes (Err (Caused cause)) change s units n old new e within is leads =
-    failed change s units n old cause.name e within (rw (sym is) leads)
+changes (Err (Fault fault)) change s units n old new e within is leads =
+    failed change s units n old fault e within (rw (sym is) leads)
 changes (Err NoMemory) change s units n old new e within is leads = tt
 
 -- a unit that says what it said before

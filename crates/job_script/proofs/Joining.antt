@@ -4,8 +4,8 @@ use Rattle.script_words.specs.Forms.{Leaves, put_after, hex_bytes, joined}
 use Rattle.script_words.specs.declared.forms.FormError.{FormError}
 use Rattle.script_words.specs.declared.forms.FormError.TheVariants.{NotOfForm, OutOfMemory}
 use Rattle.script_words.proofs.Joining.{joined_stops}
-use Rattle.job_script.specs.declared.cause.Refusal.{Refusal}
-use Rattle.job_script.specs.declared.cause.Refusal.TheVariants.{Caused, NoMemory}
+use Rattle.job_script.specs.declared.refusal.Refusal.{Refusal}
+use Rattle.job_script.specs.declared.refusal.Refusal.TheVariants.{Fault, NoMemory}
 use Rattle.job_script.specs.declared.fault.FaultName.{FaultName}
 use Rattle.job_script.specs.Forms.{formed}
 use Rattle.job_script.specs.Outcomes.{IsNoBytes, Returns}
@@ -15,8 +15,8 @@ pub joined_fails : (error : FormError) (refusal : Refusal) (front new word : Lis
     (whole : Option (List ℕ)) → ws ≡ word ∷ rest → Leaves (Err error) new (put_after front (hex_bytes word)) →
     put_after front (joined ws) ≡ whole
     → IsNoBytes error refusal → Returns (λ (bytes : List ℕ). bytes) (Err refusal) (formed whole)
-joined_fails NotOfForm (Caused cause) front new word ws rest whole e one so_far is =
+joined_fails NotOfForm (Fault fault) front new word ws rest whole e one so_far is =
     rw (joined_stops front word ws rest whole e one so_far) (ap (λ (n : FaultName). Err n) (sym is))
 joined_fails NotOfForm NoMemory front new word ws rest whole e one so_far is = absurd is
-joined_fails OutOfMemory (Caused cause) front new word ws rest whole e one so_far is = absurd (search rules)
+joined_fails OutOfMemory (Fault fault) front new word ws rest whole e one so_far is = absurd (search rules)
 joined_fails OutOfMemory NoMemory front new word ws rest whole e one so_far is = tt

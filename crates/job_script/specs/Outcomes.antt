@@ -1,14 +1,11 @@
--- WHAT A CALL RETURNS OR LEAVES, by the grammar. The cause of a fault has its name; a call that runs out of memory may return nothing else.
+-- WHAT A CALL RETURNS OR LEAVES, by the grammar. A call that runs out of memory may return nothing else.
 use Rattle.std.specs.Prelude.{◌≡◌, List, ℕ, Result, Ok, Err}
 use Rattle.script_words.specs.Text.{words}
 use Rattle.script_words.specs.declared.words.Words.{Words}
 use Rattle.io_area.specs.Storage.{Storage}
-use Rattle.io_area.specs.declared.error.AreaError.{AreaError}
-use Rattle.io_area.specs.declared.error.AreaError.TheVariants as area_errors
 use Rattle.job_script.specs.Adding.{is_area}
-use Rattle.job_script.specs.declared.cause.Cause.{Cause}
-use Rattle.job_script.specs.declared.cause.Refusal.{Refusal}
-use Rattle.job_script.specs.declared.cause.Refusal.TheVariants.{Caused, NoMemory}
+use Rattle.job_script.specs.declared.refusal.Refusal.{Refusal}
+use Rattle.job_script.specs.declared.refusal.Refusal.TheVariants.{Fault, NoMemory}
 use Rattle.job_script.specs.Grammar.{FaultAt}
 use Rattle.job_script.specs.declared.fault.JobError.{JobError}
 use Rattle.job_script.specs.declared.fault.JobError.TheVariants as faults
@@ -22,49 +19,36 @@ abbrev pub words_in : Words → List (List ℕ)
 words_in line = words line.line.now
 
 -- a call that takes no memory returned what was to be read
-abbrev pub Reads : {X : Type 0} → Result X Cause → Result X FaultName → Type 0
-Reads (Ok x) read = read ≡ Ok x
-Reads (Err cause) read = read ≡ Err cause.name
+abbrev pub Reads : {X : Type 0} → Result X FaultName → Result X FaultName → Type 0
+Reads result read = read ≡ result
 
 -- a call that takes no memory returned a value, and what this value says was to be read
-abbrev pub ReadsAs : {X Y : Type 0} → (X → Y) → Result X Cause → Result Y FaultName → Type 0
+abbrev pub ReadsAs : {X Y : Type 0} → (X → Y) → Result X FaultName → Result Y FaultName → Type 0
 ReadsAs view (Ok x) read = read ≡ Ok (view x)
-ReadsAs view (Err cause) read = read ≡ Err cause.name
+ReadsAs view (Err fault) read = read ≡ Err fault
 
 -- a call returned a value that says what was to be read, out of memory apart
 abbrev pub Returns : {X Y : Type 0} → (X → Y) → Result X Refusal → Result Y FaultName → Type 0
 Returns view (Ok x) read = read ≡ Ok (view x)
-Returns view (Err (Caused cause)) read = read ≡ Err cause.name
+Returns view (Err (Fault fault)) read = read ≡ Err fault
 Returns view (Err NoMemory) read = Unit {0}
 
 -- a call left what was to be read, out of memory apart
 abbrev pub Leads : {S : Type 0} → Result (Unit {0}) Refusal → S → Result S FaultName → Type 0
 Leads (Ok x) new read = read ≡ Ok new
-Leads (Err (Caused cause)) new read = read ≡ Err cause.name
+Leads (Err (Fault fault)) new read = read ≡ Err fault
 Leads (Err NoMemory) new read = Unit {0}
 
 -- why a word gives no bytes
 abbrev pub IsNoBytes : FormError → Refusal → Type 0
-IsNoBytes NotOfForm (Caused cause) = cause.name ≡ names.Number
+IsNoBytes NotOfForm (Fault fault) = fault ≡ names.Number
 IsNoBytes NotOfForm NoMemory = ⊥
 IsNoBytes OutOfMemory refusal = refusal ≡ NoMemory
-
--- a line is refused with a fault of this name
-abbrev pub IsNamed : FaultName → Refusal → Type 0
-IsNamed fault (Caused cause) = cause.name ≡ fault
-IsNamed fault NoMemory = ⊥
-
--- why there is no area
-abbrev pub IsNoArea : AreaError → Refusal → Type 0
-IsNoArea area_errors.NoMemory refusal = refusal ≡ NoMemory
-IsNoArea area_errors.Misaligned refusal = IsNamed names.Area refusal
-IsNoArea area_errors.TooLong refusal = IsNamed names.Area refusal
-IsNoArea area_errors.PastTop refusal = IsNamed names.Area refusal
 
 -- a call returned this storage as an area, if it is one, out of memory apart
 abbrev pub MakesArea : Storage → Result Storage Refusal → Type 0
 MakesArea storage (Ok area) = (is_area storage ≡ Ok tt) × (area ≡ storage)
-MakesArea storage (Err (Caused cause)) = is_area storage ≡ Err cause.name
+MakesArea storage (Err (Fault fault)) = is_area storage ≡ Err fault
 MakesArea storage (Err NoMemory) = Unit {0}
 
 -- a call left what the line with this number says, out of memory apart

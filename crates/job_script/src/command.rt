@@ -1,8 +1,5 @@
 //! What the tasks of a script do.
 
-ghost use Rattle.std.specs.Prelude.{◌≡◌};
-ghost use Rattle.job_script.specs.Commands.{issues_of, issues_to};
-
 use io_area::Area;
 use std::alloc::Global;
 use std::sync::Arc;
@@ -50,26 +47,4 @@ pub struct Command {
     pub line: usize,
     pub task: u16,
     pub action: Action,
-}
-
-impl Command {
-    /// Whether it issues a request to the unit.
-    pub fn issues_to(&self, unit: u16) -> bool
-        ensures { result ≡ issues_to unit self.now }
-    {
-        match &self.action {
-            Action::Excp(excp) => excp.dcb.unit == unit,
-            _ => false,
-        }
-    }
-
-    /// Whether the task issues a request by it.
-    pub fn issues_of(&self, task: u16) -> bool
-        ensures { result ≡ issues_of task self.now }
-    {
-        match &self.action {
-            Action::Excp(_) => self.task == task,
-            _ => false,
-        }
-    }
 }

@@ -5,11 +5,10 @@ ghost use Rattle.std.specs.Prelude.{drop};
 ghost use Rattle.job_script.specs.Forms.{address, bytes, dcb_name, digits, extent, extents, has, has_least, index, joined_bytes, method_of, mode_of, number, number_in, subclass, word};
 ghost use Rattle.job_script.specs.Lines.{is_comment};
 ghost use Rattle.job_script.specs.Outcomes.{IsNoBytes, Reads, Returns, words_in};
-ghost use Rattle.job_script.specs.declared.fault.FaultName.TheVariants as names;
 
-use crate::cause::{Cause, Refusal};
 use crate::command::DcbName;
 use crate::fault::FaultName;
+use crate::refusal::Refusal;
 use io_images::Extent;
 use script_words::{FormError, Words};
 use std::alloc::Global;
@@ -17,71 +16,43 @@ use unit_book::{Mode, ProcessingMethod};
 
 /// The line has `count` words.
 #[inline(always)]
-pub fn has(line: &Words<'_>, count: usize) -> Result<(), Cause>
+pub fn has(line: &Words<'_>, count: usize) -> Result<(), FaultName>
     ensures { Reads result (has count (words_in line.now)) }
 {
     if line.count() == count {
         Ok(())
     } else {
-        Err(wrong_count(
-            line.count(),
-            count,
-            "a line '{w}' has {n} words, and this one has {n}",
-        ))
+        Err(FaultName::Words)
     }
 }
 
 /// The line has at least `count` words.
 #[inline(always)]
-pub fn has_least(line: &Words<'_>, count: usize) -> Result<(), Cause>
+pub fn has_least(line: &Words<'_>, count: usize) -> Result<(), FaultName>
     ensures { Reads result (has_least count (words_in line.now)) }
 {
     if line.count() >= count {
         Ok(())
     } else {
-        Err(wrong_count(
-            line.count(),
-            count,
-            "a line '{w}' has {n} words or more, and this one has {n}",
-        ))
+        Err(FaultName::Words)
     }
-}
-
-/// That the line does not have the words that it should have.
-#[inline(always)]
-fn wrong_count(count: usize, wanted: usize, text: &'static str) -> Cause
-    ensures { result.name ≡ names.Words }
-{
-    Cause::new(FaultName::Words, text, &[1, wanted as u64, count as u64])
-}
-
-/// That a word is not of its form. The text tells of it with its number from 1, the word itself, and two numbers.
-#[inline(always)]
-fn malformed(place: usize, text: &'static str, first: u64, second: u64) -> Cause
-    ensures { result.name ≡ names.Number }
-{
-    let number = (place as u64).saturating_add(1);
-    Cause::new(FaultName::Number, text, &[number, number, first, second])
 }
 
 /// Reads a decimal number of 1 to 10 digits.
 #[inline(always)]
-pub fn number(line: &Words<'_>, place: usize) -> Result<u64, Cause>
+pub fn number(line: &Words<'_>, place: usize) -> Result<u64, FaultName>
     requires { place < 8 }
     ensures { Reads result (number (word place (words_in line.now))) }
 {
     match script_words::decimal(line.word(place)) {
         Some(number) => Ok(number),
-        None => {
-            let text = "word {n}, '{w}': expected a decimal number of 1 to 10 digits";
-            Err(malformed(place, text, 0, 0))
-        }
+        None => Err(FaultName::Number),
     }
 }
 
 /// Reads a decimal number from `least` to `most`.
 #[inline(always)]
-pub fn number_in(line: &Words<'_>, place: usize, least: u16, most: u16) -> Result<u16, Cause>
+pub fn number_in(line: &Words<'_>, place: usize, least: u16, most: u16) -> Result<u16, FaultName>
     requires { place < 8 }
     ensures value { Reads result (number_in least most (word place (words_in line.now))) }
     ensures low { IfOk result (λ n. least ≤ n) }
@@ -89,16 +60,13 @@ pub fn number_in(line: &Words<'_>, place: usize, least: u16, most: u16) -> Resul
 {
     match script_words::decimal_in(line.word(place), least, most) {
         Some(number) => Ok(number),
-        None => {
-            let text = "word {n}, '{w}': expected a number from {n} to {n}";
-            Err(malformed(place, text, u64::from(least), u64::from(most)))
-        }
+        None => Err(FaultName::Number),
     }
 }
 
 /// Reads the number of a task or a unit, below 64.
 #[inline(always)]
-pub fn index(line: &Words<'_>, place: usize) -> Result<u16, Cause>
+pub fn index(line: &Words<'_>, place: usize) -> Result<u16, FaultName>
     requires { place < 8 }
     ensures value { Reads result (index (word place (words_in line.now))) }
     ensures high { IfOk result (λ n. n < 64) }
@@ -108,7 +76,7 @@ pub fn index(line: &Words<'_>, place: usize) -> Result<u16, Cause>
 
 /// Reads an interruption subclass, 0 to 7.
 #[inline(always)]
-pub fn subclass(line: &Words<'_>, place: usize) -> Result<u8, Cause>
+pub fn subclass(line: &Words<'_>, place: usize) -> Result<u8, FaultName>
     requires { place < 8 }
     ensures value { Reads result (subclass (word place (words_in line.now))) }
     ensures high { IfOk result (λ n. n ≤ 7) }
@@ -119,7 +87,7 @@ pub fn subclass(line: &Words<'_>, place: usize) -> Result<u8, Cause>
 
 /// Reads a number of 16 bits.
 #[inline(always)]
-pub fn halfword(line: &Words<'_>, place: usize) -> Result<u16, Cause>
+pub fn halfword(line: &Words<'_>, place: usize) -> Result<u16, FaultName>
     requires { place < 8 }
     ensures { Reads result (number_in 0 65535 (word place (words_in line.now))) }
 {
@@ -128,7 +96,7 @@ pub fn halfword(line: &Words<'_>, place: usize) -> Result<u16, Cause>
 
 /// Reads a number of 8 bits.
 #[inline(always)]
-pub fn small_number(line: &Words<'_>, place: usize) -> Result<u8, Cause>
+pub fn small_number(line: &Words<'_>, place: usize) -> Result<u8, FaultName>
     requires { place < 8 }
     ensures { Reads result (number_in 0 255 (word place (words_in line.now))) }
 {
@@ -136,48 +104,39 @@ pub fn small_number(line: &Words<'_>, place: usize) -> Result<u8, Cause>
     Ok(number as u8)
 }
 
-/// That a word is not of `count` hexadecimal digits.
-#[inline(always)]
-fn wrong_digits(place: usize, count: u64) -> Cause
-    ensures { result.name ≡ names.Number }
-{
-    let text = "word {n}, '{w}': expected {n} hexadecimal digits";
-    malformed(place, text, count, 0)
-}
-
 /// Reads an address of 6 hexadecimal digits.
 #[inline(always)]
-pub fn address(line: &Words<'_>, place: usize) -> Result<u32, Cause>
+pub fn address(line: &Words<'_>, place: usize) -> Result<u32, FaultName>
     requires { place < 8 }
     ensures { Reads result (address (word place (words_in line.now))) }
 {
     match script_words::hexadecimal(line.word(place), 6) {
         Some(address) => Ok(address),
-        None => Err(wrong_digits(place, 6)),
+        None => Err(FaultName::Number),
     }
 }
 
 /// Reads a byte of 2 hexadecimal digits.
 #[inline(always)]
-pub fn byte(line: &Words<'_>, place: usize) -> Result<u8, Cause>
+pub fn byte(line: &Words<'_>, place: usize) -> Result<u8, FaultName>
     requires { place < 8 }
     ensures { Reads result (digits 2 (word place (words_in line.now))) }
 {
     match script_words::byte(line.word(place)) {
         Some(byte) => Ok(byte),
-        None => Err(wrong_digits(place, 2)),
+        None => Err(FaultName::Number),
     }
 }
 
 /// Reads two bytes of 4 hexadecimal digits.
 #[inline(always)]
-pub fn two_bytes(line: &Words<'_>, place: usize) -> Result<u16, Cause>
+pub fn two_bytes(line: &Words<'_>, place: usize) -> Result<u16, FaultName>
     requires { place < 8 }
     ensures { Reads result (digits 4 (word place (words_in line.now))) }
 {
     match script_words::two_bytes(line.word(place)) {
         Some(number) => Ok(number),
-        None => Err(wrong_digits(place, 4)),
+        None => Err(FaultName::Number),
     }
 }
 
@@ -189,21 +148,17 @@ pub fn bytes(alloc: Global, line: &Words<'_>, place: usize) -> Result<Vec<u8>, R
 {
     match script_words::bytes_of(alloc, line.word(place)) {
         Ok(bytes) => Ok(bytes),
-        Err(error) => Err(no_bytes(error, place)),
+        Err(error) => Err(no_bytes(error)),
     }
 }
 
 /// Why a word gives no bytes.
 #[inline(always)]
-fn no_bytes(error: FormError, place: usize) -> Refusal
+fn no_bytes(error: FormError) -> Refusal
     ensures { IsNoBytes error result }
 {
     match error {
-        FormError::NotOfForm => {
-            let text =
-                "word {n}, '{w}': expected an even number of hexadecimal digits, or - for no byte";
-            Refusal::Caused(malformed(place, text, 0, 0))
-        }
+        FormError::NotOfForm => Refusal::Fault(FaultName::Number),
         FormError::OutOfMemory => Refusal::NoMemory,
     }
 }
@@ -214,12 +169,10 @@ pub fn joined_bytes(alloc: Global, line: &Words<'_>) -> Result<Vec<u8>, Refusal>
 {
     let mut bytes = Vec::with_capacity(alloc, line.line.len() / 2)?;
     let mut left = script_words::after_words(line.line, 3);
-    let mut place: usize = 3;
     'words: while let Some((word, rest)) = script_words::next_word(left) {
         if let Err(error) = script_words::push_bytes(&mut bytes, word) {
-            return Err(no_bytes(error, place));
+            return Err(no_bytes(error));
         }
-        place = place.saturating_add(1);
         left = rest;
     }
     Ok(bytes)
@@ -231,13 +184,11 @@ pub fn extents(alloc: Global, line: &Words<'_>) -> Result<Vec<Extent>, Refusal>
 {
     let mut extents = Vec::new(alloc);
     let mut left = script_words::after_words(line.line, 3);
-    let mut place: usize = 3;
     'words: while let Some((word, rest)) = script_words::next_word(left) {
         let Some(extent) = extent(word) else {
-            return Err(Refusal::Caused(wrong_digits(place, 32)));
+            return Err(Refusal::Fault(FaultName::Number));
         };
         extents.push(extent)?;
-        place = place.saturating_add(1);
         left = rest;
     }
     Ok(extents)
@@ -254,7 +205,7 @@ fn extent(word: &[u8]) -> Option<Extent>
 /// Reads the number of a unit and of one of its DCBs, at least 1.
 #[inline(always)]
 #[tactic(auto, unfolding(crate::specs::Forms::dcb_name))]
-pub fn dcb_of(line: &Words<'_>, unit: usize, dcb: usize) -> Result<DcbName, Cause>
+pub fn dcb_of(line: &Words<'_>, unit: usize, dcb: usize) -> Result<DcbName, FaultName>
     requires unit { unit < 8 }
     requires dcb { dcb < 8 }
     ensures { Reads result (dcb_name (word unit (words_in line.now)) (word dcb (words_in line.now))) }
@@ -267,7 +218,7 @@ pub fn dcb_of(line: &Words<'_>, unit: usize, dcb: usize) -> Result<DcbName, Caus
 /// Reads `in` or `out`: what a DCB is opened for.
 #[inline(always)]
 #[tactic(auto, unfolding(crate::specs::Forms::method_of))]
-pub fn method_of(line: &Words<'_>, place: usize) -> Result<ProcessingMethod, Cause>
+pub fn method_of(line: &Words<'_>, place: usize) -> Result<ProcessingMethod, FaultName>
     requires { place < 8 }
     ensures { Reads result (method_of (word place (words_in line.now))) }
 {
@@ -278,13 +229,13 @@ pub fn method_of(line: &Words<'_>, place: usize) -> Result<ProcessingMethod, Cau
     if word == b"out".as_slice() {
         return Ok(ProcessingMethod::Output);
     }
-    Err(malformed(place, "word {n}, '{w}': expected in or out", 0, 0))
+    Err(FaultName::Number)
 }
 
 /// Reads `quiesce` or `halt`.
 #[inline(always)]
 #[tactic(auto, unfolding(crate::specs::Forms::mode_of))]
-pub fn mode_of(line: &Words<'_>, place: usize) -> Result<Mode, Cause>
+pub fn mode_of(line: &Words<'_>, place: usize) -> Result<Mode, FaultName>
     requires { place < 8 }
     ensures { Reads result (mode_of (word place (words_in line.now))) }
 {
@@ -295,7 +246,7 @@ pub fn mode_of(line: &Words<'_>, place: usize) -> Result<Mode, Cause>
     if word == b"halt".as_slice() {
         return Ok(Mode::Halt);
     }
-    Err(malformed(place, "word {n}, '{w}': expected quiesce or halt", 0, 0))
+    Err(FaultName::Number)
 }
 
 /// Whether a word begins with `#`.

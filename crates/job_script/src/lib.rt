@@ -6,26 +6,21 @@
 //! Tests: component_tests (`scripts`), tests/cases/scripts/broken.posts, tests/cases/mistakes/lines.findings.
 #![tactic(auto)]
 
-mod cause;
 mod command;
 mod fault;
 pub mod forms;
 mod line;
-mod message;
 mod reading;
+mod refusal;
 mod runs;
 mod script;
 mod set_up;
 
-pub use cause::{Cause, Refusal};
 pub use command::{Action, Command, DcbName, Excp};
 pub use fault::{FaultName, JobError};
-pub use line::{
-    AreaLine, BYTE_ORDER_MARK, ExcpLine, Line, SetUpLine, SetUpVerb, TasksLine, UnitLine, Verb,
-    begins_line, first_unprintable, is_symbolic, unprintable,
-};
-pub use message::{Message, write_word};
+pub use line::{AreaLine, ExcpLine, Line, SetUpLine, SetUpVerb, TasksLine, UnitLine, Verb};
 pub use reading::{LIMIT, read_script};
+pub use refusal::Refusal;
 pub use runs::worked_runs;
-pub use script::{Script, late};
-pub use set_up::{AreaPlace, Medium, Opening, SetUp, UnitSetup};
+pub use script::Script;
+pub use set_up::{Medium, Opening, SetUp, UnitSetup};

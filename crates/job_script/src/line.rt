@@ -10,11 +10,10 @@ ghost use Rattle.std.specs.Prelude.{◌≡◌, ◌≤◌, ◌<◌};
 ghost use Rattle.std.specs.Arc.{arc_value};
 ghost use Rattle.job_script.specs.declared.fault.FaultName.TheVariants as names;
 
-use crate::cause::{Cause, Refusal};
 use crate::command::{Command, DcbName, Excp};
 use crate::fault::FaultName;
 use crate::forms::is_comment;
-use crate::message::Message;
+use crate::refusal::Refusal;
 use crate::set_up::{Medium, Opening};
 use areas::{area, opening, tasks};
 use ckd_disk::InitialRecord;
@@ -26,16 +25,7 @@ use std::alloc::Global;
 use std::sync::Arc;
 use tape_unit::InitialItem;
 use units::{block, disk, fault, mark, printer, record, tape};
-pub use verb::{SetUpVerb, Verb, begins_line};
-
-/// No line begins with this word.
-const UNKNOWN: &str =
-    "no line begins with '{w}': expected tasks, disk, tape, printer, rec, block, mark, fault, open, area, \
-    excp, purge, purgetask, close, reset or wait";
-
-/// Only a line of a symbolic area begins with this word.
-const SYMBOLIC: &str =
-    "'{w}' begins a line of a symbolic area: expected a line 'area A' before it, and 'endarea' after it";
+pub use verb::{SetUpVerb, Verb};
 
 /// A line that declares something; the number in front is that of the unit.
 #[derive(Drop)]
@@ -191,7 +181,7 @@ impl Verb {
     /// What kind of line it is, or none if it says nothing.
     #[inline(always)]
     #[tactic(auto, unfolding(crate::specs::Lines::line_kind))]
-    pub fn of_line(line: &Words<'_>) -> Result<Option<Verb>, Cause>
+    pub fn of_line(line: &Words<'_>) -> Result<Option<Verb>, FaultName>
         ensures { Reads result (line_kind (is_printable line.now.line.now) (words_in line.now)) }
     {
         if line.count() == 0 {
@@ -202,69 +192,11 @@ impl Verb {
             return Ok(None);
         }
         if !line.is_printable() {
-            return Err(not_printable(line.line));
+            return Err(FaultName::Words);
         }
         match Verb::of(first) {
             Some(verb) => Ok(Some(verb)),
-            None => Err(Cause::new(FaultName::Words, unknown(first), &[1])),
+            None => Err(FaultName::Words),
         }
     }
-}
-
-/// The text on a first word that begins no line of a script.
-fn unknown(word: &[u8]) -> &'static str {
-    if is_symbolic(word) { SYMBOLIC } else { UNKNOWN }
-}
-
-/// Whether only a line of a symbolic area begins with this word: a label with its colon, a semicolon, or a name in
-/// capitals.
-pub fn is_symbolic(word: &[u8]) -> bool {
-    if word.ends_with(b":") || word.starts_with(b";") {
-        return true;
-    }
-    let Some(first) = word.first() else {
-        return false;
-    };
-    let is_name = word
-        .iter()
-        .all(|byte| byte.is_ascii_uppercase() || byte.is_ascii_digit());
-    first.is_ascii_uppercase() && is_name
-}
-
-/// That a line has a byte that is not printable.
-fn not_printable(bytes: &[u8]) -> Cause
-    ensures { result.name ≡ names.Words }
-{
-    match unprintable(bytes) {
-        Some(message) => Cause {
-            name: FaultName::Words,
-            message,
-        },
-        None => Cause::new(FaultName::Words, "", &[]),
-    }
-}
-
-/// How a file of UTF-8 begins if an editor has marked it so.
-pub const BYTE_ORDER_MARK: [u8; 3] = [0xEF, 0xBB, 0xBF];
-
-/// The message on the byte of a line that is first not a printable ASCII character.
-pub fn unprintable(bytes: &[u8]) -> Option<Message> {
-    if bytes.starts_with(&BYTE_ORDER_MARK) {
-        let text = "the line begins with a byte order mark (X'EFBBBF'): save the file without one";
-        return Some(Message::new(text, &[]));
-    }
-    let (place, byte) = first_unprintable(bytes)?;
-    let text = match byte {
-        b'\r' => "byte {n} is a carriage return (X'{b}'): end lines with a line feed alone",
-        b'\t' => "byte {n} is a tab (X'{b}'): separate words with blanks",
-        _ => "byte {n}, X'{b}', is not a printable ASCII character",
-    };
-    let place = place as u64;
-    Some(Message::new(text, &[place.saturating_add(1), u64::from(byte)]))
-}
-
-/// The byte of a line that is first not a printable ASCII character, with its place, from 0.
-pub fn first_unprintable(bytes: &[u8]) -> Option<(usize, u8)> {
-    let place = bytes.iter().position(|byte| *byte < b' ' || *byte > b'~')?;
-    Some((place, *bytes.get(place)?))
 }

@@ -2,18 +2,17 @@
 
 ghost use Rattle.std.specs.Prelude.{◌≡◌, ◌<◌, ◌≤◌, ◌==◌, ◌++◌, ◌∷◌, [], ℕ, All, Contains, IfOk, OnErr, OnOk, get_or, if◌then◌else◌, vec_len};
 ghost use Rattle.job_script.specs.Commands.{NamesUnits, most, request_count_of, request_count_to};
-ghost use Rattle.job_script.specs.Outcomes.{IsNamed};
 ghost use Rattle.job_script.specs.Tasks.{list_of, places_of};
 ghost use Rattle.job_script.specs.declared.command.Command.{Command as OneCommand};
 ghost use Rattle.job_script.specs.declared.fault.FaultName.TheVariants as names;
 
-use crate::cause::{Cause, Refusal};
 use crate::command::{Action, Command};
 use crate::fault::{FaultName, JobError};
 use crate::line::areas::{area, opening, tasks};
 use crate::line::commands::{close, excp, purge, purge_task, reset, wait};
 use crate::line::units::{block, disk, fault, mark, printer, record, tape};
 use crate::line::{SetUpLine, SetUpVerb, Verb};
+use crate::refusal::Refusal;
 use crate::set_up::SetUp;
 use script_words::Words;
 use std::alloc::{AllocError, Global};
@@ -94,10 +93,7 @@ impl Script {
     {
         match self.read_line(alloc, number, line) {
             Ok(()) => Ok(()),
-            Err(Refusal::Caused(cause)) => Err(JobError::Line {
-                line: number,
-                name: cause.name,
-            }),
+            Err(Refusal::Fault(name)) => Err(JobError::Line { line: number, name }),
             Err(Refusal::NoMemory) => Err(JobError::NoMemory),
         }
     }
@@ -172,9 +168,9 @@ impl Script {
         ensures { Leads result (said self.new) (add_line (says_set_up (set_up_line_said line)) (said self.old)) }
     {
         if !self.commands.is_empty() {
-            return Err(late(self.commands[0].line));
+            return Err(Refusal::Fault(FaultName::Order));
         }
-        self.set_up.add(alloc, number, line)
+        self.set_up.add(alloc, line)
     }
 
     /// Adds a command, if all that it names is declared.
@@ -282,12 +278,4 @@ fn lengthen(alloc: Global, lists: &mut Vec<Vec<usize>>, number: usize) -> Result
         lists.push(Vec::new(alloc))?;
     }
     Ok(())
-}
-
-/// Why a set-up line after the first command, which has this line, is refused.
-pub fn late(command: usize) -> Refusal
-    ensures { IsNamed names.Order result }
-{
-    let text = "'{w}' must come before the first command (line {n})";
-    Refusal::Caused(Cause::new(FaultName::Order, text, &[1, command as u64]))
 }

@@ -4,13 +4,12 @@
 ghost use Rattle.std.specs.Prelude.{◌≡◌, ◌≤◌, ◌<◌, OnErr, OnOk, vec_len};
 ghost use Rattle.std.specs.Arc.{arc_value};
 ghost use Rattle.job_script.specs.Commands.{NamesUnits};
-ghost use Rattle.job_script.specs.Outcomes.{IsNamed, IsNoArea, MakesArea};
-ghost use Rattle.job_script.specs.declared.fault.FaultName.TheVariants as names;
+ghost use Rattle.job_script.specs.Outcomes.{MakesArea};
 
-use crate::cause::{Cause, Refusal};
 use crate::command::{Action, Command, DcbName, Excp};
 use crate::fault::FaultName;
 use crate::line::{AreaLine, ExcpLine, SetUpLine, TasksLine, UnitLine};
+use crate::refusal::Refusal;
 use ckd_disk::{Geometry, InitialRecord};
 use device_port::Fault as DeviceFault;
 use io_area::{Area, AreaError};
@@ -19,27 +18,6 @@ use std::alloc::Global;
 use std::sync::Arc;
 use tape_unit::InitialItem;
 use unit_book::ProcessingMethod;
-
-/// The texts on a number that is not declared: if none is, if only 0 is, and if more are.
-type Texts = [&'static str; 3];
-
-const UNITS: Texts = [
-    "unit {n} is not declared: no line before this one declares a unit",
-    "unit {n} is not declared: the only unit is {n}",
-    "unit {n} is not declared: the units are 0 to {n}",
-];
-
-const TASKS: Texts = [
-    "task {n} is not declared: no line before this one declares the tasks",
-    "task {n} is not declared: the only task is {n}",
-    "task {n} is not declared: the tasks are 0 to {n}",
-];
-
-const AREAS: Texts = [
-    "area {n} is not declared: no line before this one declares an area",
-    "area {n} is not declared: the only area is {n}",
-    "area {n} is not declared: the areas are 0 to {n}",
-];
 
 /// The medium of a unit, and what lies on it.
 #[derive(Drop)]
@@ -65,20 +43,9 @@ pub struct UnitSetup {
     pub line: usize,
     pub isc: u8,
     pub medium: Medium,
-    /// The lines of its records or items, in their order.
-    pub content_lines: Vec<usize>,
     pub faults: Vec<DeviceFault>,
-    /// The lines of its faults, in their order.
-    pub fault_lines: Vec<usize>,
     pub openings: Vec<Opening>,
     ghost subclass: { isc ≤ 7 },
-}
-
-/// The number of an area, and its line.
-#[derive(Clone, Copy)]
-pub struct AreaPlace {
-    pub number: u64,
-    pub line: usize,
 }
 
 /// What the set-up lines of a script declare.
@@ -90,8 +57,6 @@ pub struct SetUp {
     pub units: Vec<UnitSetup>,
     /// The areas, in the order of their numbers.
     pub areas: Vec<Arc<Area, Global>>,
-    /// The lines of the areas, in their order.
-    pub area_lines: Vec<usize>,
     ghost few_tasks: { tasks ≤ 64 },
     ghost few_units: { vec_len units ≤ 64 },
 }
@@ -113,56 +78,54 @@ impl SetUp {
             tasks: 0,
             units: Vec::new(alloc),
             areas: Vec::new(alloc),
-            area_lines: Vec::new(alloc),
         }
     }
 
     /// A unit has this number.
-    pub fn names_unit(&self, number: u16) -> Result<(), Cause>
+    pub fn names_unit(&self, number: u16) -> Result<(), FaultName>
         ensures below { OnOk result (number < vec_len self.now.units) }
     {
         if usize::from(number) < self.units.len() {
             Ok(())
         } else {
-            Err(self.no_unit(usize::from(number)))
+            Err(FaultName::Name)
         }
     }
 
     /// A unit has this DCB.
     #[inline(always)]
-    fn names_dcb(&self, dcb: DcbName) -> Result<(), Cause>
+    fn names_dcb(&self, dcb: DcbName) -> Result<(), FaultName>
         ensures read { Reads result (is_dcb dcb (set_up_said self.now)) }
         ensures unit { OnOk result (dcb.unit < vec_len self.now.units) }
     {
         let unit = usize::from(dcb.unit);
         if unit >= self.units.len() {
-            return Err(self.no_unit(unit));
+            return Err(FaultName::Name);
         }
         let declared = &self.units[unit];
         if usize::from(dcb.number) > declared.openings.len() {
-            return Err(no_dcb(dcb.number, declared.openings.len(), dcb.unit));
+            return Err(FaultName::Name);
         }
         Ok(())
     }
 
     /// A task has this number.
     #[inline(always)]
-    pub fn names_task(&self, number: u16) -> Result<(), Cause>
+    pub fn names_task(&self, number: u16) -> Result<(), FaultName>
         ensures read { Reads result (is_task number (set_up_said self.now)) }
         ensures below { OnOk result (number < self.now.tasks) }
     {
-        let count = self.tasks;
-        if number < count {
+        if number < self.tasks {
             Ok(())
         } else {
-            Err(no_task(number, count))
+            Err(FaultName::Name)
         }
     }
 
     /// All that a command names is declared: its task, and a DCB or another task.
     #[inline(always)]
     #[tactic(auto, unfolding(crate::specs::Adding::names_command))]
-    pub fn names(&self, command: &Command) -> Result<(), Cause>
+    pub fn names(&self, command: &Command) -> Result<(), FaultName>
         ensures read { Reads result (names_command (command_said command.now) (set_up_said self.now)) }
         ensures task { OnOk result (command.now.task < self.now.tasks) }
         ensures units { OnOk result (NamesUnits (vec_len self.now.units) command.now) }
@@ -182,19 +145,10 @@ impl SetUp {
         ensures { Returns arc_value result (numbered number (set_up_said self.now).areas) }
     {
         if number >= self.areas.len() as u64 {
-            return Err(Refusal::Caused(no_area_has(number, self.areas.len())));
+            return Err(Refusal::Fault(FaultName::Name));
         }
         let area = &self.areas[number as usize];
         Ok(Arc::try_clone(area)?)
-    }
-
-    /// The place of the area with this number.
-    pub fn place_of_area(&self, number: u64) -> AreaPlace {
-        let line = match self.area_lines.get(number as usize) {
-            Some(line) => *line,
-            None => 0,
-        };
-        AreaPlace { number, line }
     }
 
     /// The EXCP of a line, with its area.
@@ -219,21 +173,21 @@ impl SetUp {
         })
     }
 
-    /// Adds what the line with this number says, in the order of the faults that it may have.
+    /// Adds what a line says, in the order of the faults that it may have.
     #[inline(always)]
     #[tactic(auto, unfolding(crate::specs::Adding::add_set_up))]
-    pub fn add(&mut self, alloc: Global, number: usize, line: SetUpLine) -> Result<(), Refusal>
+    pub fn add(&mut self, alloc: Global, line: SetUpLine) -> Result<(), Refusal>
         ensures adds { Leads result (set_up_said self.new) (add_set_up (set_up_line_said line) (set_up_said self.old)) }
         ensures kept { OnErr result (set_up_said self.new ≡ set_up_said self.old) }
     {
         match line {
             SetUpLine::Tasks(line) => self.add_tasks(line),
             SetUpLine::Unit(line) => self.add_unit(alloc, line),
-            SetUpLine::Record(unit, record) => self.add_record(usize::from(unit), number, record),
-            SetUpLine::Item(unit, item) => self.add_item(usize::from(unit), number, item),
-            SetUpLine::Fault(unit, fault) => self.add_fault(usize::from(unit), number, fault),
+            SetUpLine::Record(unit, record) => self.add_record(usize::from(unit), record),
+            SetUpLine::Item(unit, item) => self.add_item(usize::from(unit), item),
+            SetUpLine::Fault(unit, fault) => self.add_fault(usize::from(unit), fault),
             SetUpLine::Opening(unit, opening) => self.add_opening(usize::from(unit), opening),
-            SetUpLine::Area(area) => self.add_area(alloc, number, area),
+            SetUpLine::Area(area) => self.add_area(alloc, area),
         }
     }
 
@@ -245,7 +199,7 @@ impl SetUp {
         ensures kept { OnErr result (set_up_said self.new ≡ set_up_said self.old) }
     {
         if self.tasks != 0 {
-            return Err(order("the number of tasks is declared already", &[]));
+            return Err(Refusal::Fault(FaultName::Order));
         }
         self.tasks = line.tasks;
         Ok(())
@@ -259,8 +213,7 @@ impl SetUp {
         ensures kept { OnErr result (set_up_said self.new ≡ set_up_said self.old) }
     {
         if usize::from(line.number) != self.units.len() {
-            let numbers = [u64::from(line.number), self.units.len() as u64];
-            return Err(order("unit {n} is out of order: the next unit is {n}", &numbers));
+            return Err(Refusal::Fault(FaultName::Order));
         }
         self.units.push(UnitSetup::new(alloc, line))?;
         Ok(())
@@ -268,41 +221,41 @@ impl SetUp {
 
     /// A record lies on a disk.
     #[inline(always)]
-    fn add_record(&mut self, place: usize, line: usize, added: InitialRecord) -> Result<(), Refusal>
+    fn add_record(&mut self, place: usize, added: InitialRecord) -> Result<(), Refusal>
         ensures adds { Leads result (set_up_said self.new) (change_unit place (add_record (record_said added)) (set_up_said self.old)) }
         ensures kept { OnErr result (set_up_said self.new ≡ set_up_said self.old) }
     {
         if place >= self.units.len() {
-            return Err(Refusal::Caused(self.no_unit(place)));
+            return Err(Refusal::Fault(FaultName::Name));
         }
         let unit = &mut self.units[place];
-        unit.add_record(place, line, added)
+        unit.add_record(added)
     }
 
     /// A block or a mark lies on a tape.
     #[inline(always)]
-    fn add_item(&mut self, place: usize, line: usize, item: InitialItem) -> Result<(), Refusal>
+    fn add_item(&mut self, place: usize, item: InitialItem) -> Result<(), Refusal>
         ensures adds { Leads result (set_up_said self.new) (change_unit place (add_item (initial item)) (set_up_said self.old)) }
         ensures kept { OnErr result (set_up_said self.new ≡ set_up_said self.old) }
     {
         if place >= self.units.len() {
-            return Err(Refusal::Caused(self.no_unit(place)));
+            return Err(Refusal::Fault(FaultName::Name));
         }
         let unit = &mut self.units[place];
-        unit.add_item(place, line, item)
+        unit.add_item(item)
     }
 
     /// A unit meets a fault.
     #[inline(always)]
-    fn add_fault(&mut self, place: usize, line: usize, fault: DeviceFault) -> Result<(), Refusal>
+    fn add_fault(&mut self, place: usize, fault: DeviceFault) -> Result<(), Refusal>
         ensures adds { Leads result (set_up_said self.new) (change_unit place (add_fault fault) (set_up_said self.old)) }
         ensures kept { OnErr result (set_up_said self.new ≡ set_up_said self.old) }
     {
         if place >= self.units.len() {
-            return Err(Refusal::Caused(self.no_unit(place)));
+            return Err(Refusal::Fault(FaultName::Name));
         }
         let unit = &mut self.units[place];
-        unit.add_fault(line, fault)
+        unit.add_fault(fault)
     }
 
     /// A DCB has the next number of its unit.
@@ -312,7 +265,7 @@ impl SetUp {
         ensures kept { OnErr result (set_up_said self.new ≡ set_up_said self.old) }
     {
         if place >= self.units.len() {
-            return Err(Refusal::Caused(self.no_unit(place)));
+            return Err(Refusal::Fault(FaultName::Name));
         }
         let unit = &mut self.units[place];
         unit.add_opening(opening)
@@ -321,28 +274,17 @@ impl SetUp {
     /// An area has the next number.
     #[inline(always)]
     #[tactic(auto, unfolding(crate::specs::Adding::add_area))]
-    fn add_area(&mut self, alloc: Global, line: usize, added: AreaLine) -> Result<(), Refusal>
+    fn add_area(&mut self, alloc: Global, added: AreaLine) -> Result<(), Refusal>
         ensures adds { Leads result (set_up_said self.new) (add_area added.number (record { base = added.base; bytes = added.bytes.items }) (set_up_said self.old)) }
         ensures kept { OnErr result (set_up_said self.new ≡ set_up_said self.old) }
     {
-        let expected = self.areas.len() as u64;
-        if added.number != expected {
-            let text = "area {n} is out of order: the next area is {n}";
-            return Err(order(text, &[added.number, expected]));
+        if added.number != self.areas.len() as u64 {
+            return Err(Refusal::Fault(FaultName::Order));
         }
         let area = new_area(alloc, added.base, &added.bytes)?;
         let area = Arc::new(alloc, area)?;
-        self.area_lines.reserve(1)?;
         self.areas.push(area)?;
-        self.area_lines.push_reserved(line);
         Ok(())
-    }
-
-    /// That a unit with this number is not declared.
-    fn no_unit(&self, number: usize) -> Cause
-        ensures { result.name ≡ names.Name }
-    {
-        undeclared(UNITS, number as u64, self.units.len())
     }
 }
 
@@ -361,76 +303,48 @@ impl UnitSetup {
             line: line.line,
             isc: line.isc,
             medium: line.medium,
-            content_lines: Vec::new(alloc),
             faults: Vec::new(alloc),
-            fault_lines: Vec::new(alloc),
             openings: Vec::new(alloc),
         }
     }
 
-    /// A record of the line lies on it, if it is a disk. Its number serves the message.
+    /// A record lies on it, if it is a disk.
     #[inline(always)]
-    fn add_record(
-        &mut self,
-        number: usize,
-        line: usize,
-        added: InitialRecord,
-    ) -> Result<(), Refusal>
+    fn add_record(&mut self, added: InitialRecord) -> Result<(), Refusal>
         ensures adds { Leads result (unit_said self.new) (add_record (record_said added) (unit_said self.old)) }
         ensures kept { OnErr result (unit_said self.new ≡ unit_said self.old) }
     {
         match &mut self.medium {
             Medium::Disk(_, records) => {
-                records.reserve(1)?;
-                self.content_lines.reserve(1)?;
-                records.push_reserved(added);
+                records.push(added)?;
+                Ok(())
             }
-            Medium::Tape(_, _) => return Err(kind(
-                "unit {n} is a tape, and '{w}' is for a disk",
-                number,
-            )),
-            Medium::Printer { .. } => {
-                return Err(kind("unit {n} is a printer, and '{w}' is for a disk", number));
-            }
+            _ => Err(Refusal::Fault(FaultName::Kind)),
         }
-        self.content_lines.push_reserved(line);
-        Ok(())
     }
 
-    /// An item of the line lies on it, if it is a tape. Its number serves the message.
+    /// An item lies on it, if it is a tape.
     #[inline(always)]
-    fn add_item(&mut self, number: usize, line: usize, item: InitialItem) -> Result<(), Refusal>
+    fn add_item(&mut self, item: InitialItem) -> Result<(), Refusal>
         ensures adds { Leads result (unit_said self.new) (add_item (initial item) (unit_said self.old)) }
         ensures kept { OnErr result (unit_said self.new ≡ unit_said self.old) }
     {
         match &mut self.medium {
             Medium::Tape(_, items) => {
-                items.reserve(1)?;
-                self.content_lines.reserve(1)?;
-                items.push_reserved(item);
+                items.push(item)?;
+                Ok(())
             }
-            Medium::Disk(_, _) => return Err(kind(
-                "unit {n} is a disk, and '{w}' is for a tape",
-                number,
-            )),
-            Medium::Printer { .. } => {
-                return Err(kind("unit {n} is a printer, and '{w}' is for a tape", number));
-            }
+            _ => Err(Refusal::Fault(FaultName::Kind)),
         }
-        self.content_lines.push_reserved(line);
-        Ok(())
     }
 
-    /// It meets a fault of the line.
+    /// It meets a fault.
     #[inline(always)]
-    fn add_fault(&mut self, line: usize, fault: DeviceFault) -> Result<(), Refusal>
+    fn add_fault(&mut self, fault: DeviceFault) -> Result<(), Refusal>
         ensures adds { Leads result (unit_said self.new) (add_fault fault (unit_said self.old)) }
         ensures kept { OnErr result (unit_said self.new ≡ unit_said self.old) }
     {
-        self.faults.reserve(1)?;
-        self.fault_lines.reserve(1)?;
-        self.faults.push_reserved(fault);
-        self.fault_lines.push_reserved(line);
+        self.faults.push(fault)?;
         Ok(())
     }
 
@@ -445,86 +359,13 @@ impl UnitSetup {
     }
 }
 
-/// That a unit has fewer DCBs.
-fn no_dcb(number: u16, count: usize, unit: u16) -> Cause
-    ensures { result.name ≡ names.Name }
-{
-    let text = match count {
-        0 => "DCB {n} is not open: unit {n} has no open line",
-        1 => "DCB {n} is not open: unit {n} has {n} open line (DCB 1)",
-        _ => "DCB {n} is not open: unit {n} has {n} open lines (DCB 1 to {n})",
-    };
-    let count = count as u64;
-    Cause::new(
-        FaultName::Name,
-        text,
-        &[u64::from(number), u64::from(unit), count, count],
-    )
-}
-
-/// That there are fewer tasks.
-fn no_task(number: u16, count: u16) -> Cause
-    ensures { result.name ≡ names.Name }
-{
-    undeclared(TASKS, u64::from(number), usize::from(count))
-}
-
-/// That there are fewer areas.
-fn no_area_has(number: u64, count: usize) -> Cause
-    ensures { result.name ≡ names.Name }
-{
-    undeclared(AREAS, number, count)
-}
-
-/// That nothing with this number is declared, if `count` are.
-fn undeclared(texts: Texts, number: u64, count: usize) -> Cause
-    ensures { result.name ≡ names.Name }
-{
-    let [none, one, more] = texts;
-    let text = match count {
-        0 => none,
-        1 => one,
-        _ => more,
-    };
-    let last = (count as u64).saturating_sub(1);
-    Cause::new(FaultName::Name, text, &[number, last])
-}
-
-/// The fault of a line that is out of order.
-fn order(text: &'static str, numbers: &[u64]) -> Refusal
-    ensures { IsNamed names.Order result }
-{
-    Refusal::Caused(Cause::new(FaultName::Order, text, numbers))
-}
-
-/// That a unit is not of the kind that a line is for.
-fn kind(text: &'static str, unit: usize) -> Refusal
-    ensures { IsNamed names.Kind result }
-{
-    Refusal::Caused(Cause::new(FaultName::Kind, text, &[unit as u64, 1]))
-}
-
 /// The area of these bytes from `base`.
 fn new_area(alloc: Global, base: u32, bytes: &[u8]) -> Result<Area, Refusal>
     ensures { MakesArea (record { base = base; bytes = bytes.now }) result }
 {
     match Area::new(alloc, base, bytes) {
         Ok(area) => Ok(area),
-        Err(error) => Err(no_area(error, base, bytes.len())),
+        Err(AreaError::NoMemory) => Err(Refusal::NoMemory),
+        Err(_) => Err(Refusal::Fault(FaultName::Area)),
     }
-}
-
-/// Returns why `len` bytes from `base` are no area.
-fn no_area(error: AreaError, base: u32, len: usize) -> Refusal
-    ensures { IsNoArea error result }
-{
-    let base = u64::from(base);
-    let len = len as u64;
-    let (text, numbers) = match error {
-        AreaError::NoMemory => return Refusal::NoMemory,
-        AreaError::Misaligned => ("the address {a} is not on a doubleword boundary", [base, 0]),
-        AreaError::TooLong => ("{n} byte{s}: an area has at most 8192", [len, 0]),
-        AreaError::PastTop => ("{n} byte{s} from {a} end past FFFFFF", [len, base]),
-    };
-    Refusal::Caused(Cause::new(FaultName::Area, text, &numbers))
 }

@@ -1,3 +1,2 @@
--- Why a scenario ends before its last line, and the sizes that its lines set.
-pub mod Faults
+-- The sizes that the lines of a scenario set.
 pub mod Rooms

@@ -5,11 +5,10 @@ ghost use Rattle.std.specs.Option.{option_copied};
 ghost use Rattle.job_mount.specs.Requests.{CanIssue};
 
 use crate::answer::write_answer;
-use job_check::why_rejected;
+use job_mount::can_issue;
 use job_scenario::{ScenarioLine, Step};
 use job_script::{
-    Action, Cause, Command, DcbName, Excp, ExcpLine, FaultName, Line, Opening, Refusal, SetUp,
-    SetUpLine,
+    Action, Command, DcbName, Excp, ExcpLine, FaultName, Line, Opening, Refusal, SetUp, SetUpLine,
 };
 use job_world::{StepAnswer, Supply};
 use request_piece::Scope;
@@ -49,8 +48,8 @@ struct IssuableExcp {
 }
 
 impl LineSteps {
-    /// The steps of a line, if all that it names is declared. `first` is the number of the line of the first event.
-    pub(crate) fn of(set_up: &SetUp, first: usize, line: ScenarioLine) -> Result<Self, Refusal> {
+    /// The steps of a line, if it is an event and all that it names is declared.
+    pub(crate) fn of(set_up: &SetUp, line: ScenarioLine) -> Result<Self, Refusal> {
         match line {
             ScenarioLine::Script(Line::Excp(line)) => LineSteps::push(set_up, line),
             ScenarioLine::Script(Line::Command(command)) => LineSteps::command(set_up, &command),
@@ -62,7 +61,7 @@ impl LineSteps {
             }
             ScenarioLine::Step(step) => LineSteps::new(set_up, Course::Once, step),
             ScenarioLine::Serve(unit) => LineSteps::new(set_up, Course::Serve, Step::Take(unit)),
-            _ => Err(Refusal::Caused(late(first))),
+            _ => Err(Refusal::Fault(FaultName::Order)),
         }
     }
 
@@ -80,13 +79,13 @@ impl LineSteps {
 
     /// The step of an EXCP.
     fn push(set_up: &SetUp, line: ExcpLine) -> Result<Self, Refusal> {
-        let (task, area) = (line.task, line.area);
+        let task = line.task;
         let excp = set_up.over_area(line)?;
         let step = Step::Push { task, request: 0 };
         let mut steps = LineSteps::new(set_up, Course::Once, step)?;
         set_up.names_unit(excp.dcb.unit)?;
-        if let Some(cause) = why_rejected(&excp, set_up.place_of_area(area)) {
-            return Err(Refusal::Caused(cause));
+        if !can_issue(&excp) {
+            return Err(Refusal::Fault(FaultName::Request));
         }
         steps.excp = Some(IssuableExcp { excp });
         Ok(steps)
@@ -217,7 +216,7 @@ fn after_in_turn(step: Step) -> Option<Step> {
 }
 
 /// The tasks and the unit that a step names are declared.
-fn names(set_up: &SetUp, step: Step) -> Result<(), Cause> {
+fn names(set_up: &SetUp, step: Step) -> Result<(), FaultName> {
     if let Step::Collect(task) = step {
         return set_up.names_task(task);
     }
@@ -231,10 +230,4 @@ fn names(set_up: &SetUp, step: Step) -> Result<(), Cause> {
         Some(unit) => set_up.names_unit(unit),
         None => Ok(()),
     }
-}
-
-/// The fault of a set-up line after the first event.
-fn late(first: usize) -> Cause {
-    let text = "'{w}' must come before the first event (line {n})";
-    Cause::new(FaultName::Order, text, &[1, first as u64])
 }

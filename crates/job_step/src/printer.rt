@@ -1,52 +1,13 @@
-//! Prints the answer of each event at once, and each fault and failed expectation.
+//! Prints the answer of each event at once, and each failed expectation.
 
-ghost use Rattle.std.specs.Prelude.{IfErr};
-ghost use Rattle.job_step.specs.Faults.{IsStepFault};
-
-use crate::reader::ScenarioReader;
-use job_check::{Finding, Found, Source, fault_of_scenario, write_findings};
-use job_script::{Cause, JobError};
+use crate::source::{Place, Source};
+use job_script::JobError;
 use script_words::{after_words, next_word};
 use std::alloc::Global;
-use std::io::{Read, Write};
-use std::{fmt, io};
+use std::io;
+use std::io::Write;
 
-/// A failed expectation: the number of its line, the expected text, and the line of the answer, if one is left.
-#[derive(Drop)]
-struct Unmet<'a> {
-    line: usize,
-    expected: &'a [u8],
-    answered: Option<&'a [u8]>,
-}
-
-impl<'a> Found for Unmet<'a> {
-    fn line(&self) -> Option<usize> {
-        Some(self.line)
-    }
-
-    fn is_fault(&self) -> bool {
-        true
-    }
-}
-
-impl<'a> fmt::Display for Unmet<'a> {
-    fn fmt<W: fmt::Write>(&self, f: &mut fmt::Formatter<W>) -> fmt::Result {
-        f.write_str("expected: ")?;
-        write_text(f, self.expected)?;
-        f.write_str("; answered: ")?;
-        write_text(f, self.answered.unwrap_or(b"nothing"))
-    }
-}
-
-/// Writes a text of ASCII characters.
-fn write_text<W: fmt::Write>(f: &mut fmt::Formatter<W>, text: &[u8]) -> fmt::Result {
-    for byte in text {
-        f.write_char(char::from(*byte))?;
-    }
-    Ok(())
-}
-
-/// Prints answers on one writer, and faults and failed expectations on another.
+/// Prints answers on one writer, and failed expectations on another.
 #[derive(Drop)]
 pub struct Printer<'a, W: Write, E: Write> {
     alloc: Global,
@@ -55,7 +16,7 @@ pub struct Printer<'a, W: Write, E: Write> {
     source: Source<'a>,
     /// How many bytes of the last answer were compared with an expectation.
     compared: usize,
-    /// Whether no line has a fault and all expectations are met so far.
+    /// Whether all expectations are met so far.
     is_met: bool,
 }
 
@@ -72,7 +33,7 @@ impl<'a, W: Write, E: Write> Printer<'a, W, E> {
         }
     }
 
-    /// Whether no line has a fault and all expectations are met so far.
+    /// Whether all expectations are met so far.
     pub fn is_met(&self) -> bool {
         self.is_met
     }
@@ -83,9 +44,7 @@ impl<'a, W: Write, E: Write> Printer<'a, W, E> {
     }
 
     /// Prints at once the lines of an answer, each after the words of its event, and the lines of a view.
-    pub fn answer(&mut self, event: &[u8], answer: &[u8], view: &[u8]) -> Result<(), JobError>
-        ensures { IfErr result IsStepFault }
-    {
+    pub fn answer(&mut self, event: &[u8], answer: &[u8], view: &[u8]) -> Result<(), JobError> {
         self.compared = 0;
         for line in answer.split(|byte| *byte == b'\n') {
             self.write_line(event, line).or(Err(JobError::NotWritten))?;
@@ -111,44 +70,34 @@ impl<'a, W: Write, E: Write> Printer<'a, W, E> {
         self.out.write_all(b"\n")
     }
 
-    /// Prints a fault of the line with this number, which was read last, or of the whole scenario.
-    pub fn fault<I: Read + Drop>(
-        &mut self,
-        line: usize,
-        reader: &ScenarioReader<I>,
-        cause: Cause,
-    ) -> Result<(), JobError>
-        ensures { IfErr result IsStepFault }
-    {
-        let bytes = reader.current();
-        let finding = fault_of_scenario(self.alloc, line, bytes, cause, &reader.sizes)?;
-        self.faults(&[finding])
-    }
-
-    /// Prints faults. The scenario fails.
-    pub fn faults(&mut self, faults: &[Finding<'_>]) -> Result<(), JobError>
-        ensures { IfErr result IsStepFault }
-    {
-        self.is_met = false;
-        write_findings(self.alloc, self.source, faults, &mut *self.errors)
-    }
-
     /// Compares the next line of the last answer with the text of an `expect` line, which has this number.
-    pub fn expect(&mut self, number: usize, line: &[u8], answer: &[u8]) -> Result<(), JobError>
-        ensures { IfErr result IsStepFault }
-    {
-        let expected = trimmed(after_words(line, 1));
+    pub fn expect(&mut self, number: usize, line: &[u8], answer: &[u8]) -> Result<(), JobError> {
+        let after = after_words(line, 1);
+        let expected = trimmed(after);
         let answered = self.next_of(answer);
         if answered == Some(expected) {
             return Ok(());
         }
+        match answered {
+            Some(answered) => self.tell(number, expected, answered),
+            None => self.tell(number, expected, b"nothing"),
+        }
+    }
+
+    /// Prints an expectation that is not met.
+    fn tell(&mut self, number: usize, expected: &[u8], answered: &[u8]) -> Result<(), JobError> {
         self.is_met = false;
-        let unmet = Unmet {
+        let place = Place {
+            source: self.source,
             line: number,
-            expected,
-            answered,
         };
-        write_findings(self.alloc, self.source, &[unmet], &mut *self.errors)
+        let mut text = Vec::new(self.alloc);
+        write!(text, "{place} expected: ").or(Err(JobError::NoMemory))?;
+        text.extend_from_slice(expected)?;
+        text.extend_from_slice(b"; answered: ")?;
+        text.extend_from_slice(answered)?;
+        text.push(b'\n')?;
+        self.errors.write_all(&text).or(Err(JobError::NotWritten))
     }
 
     /// The next line of an answer, if one is left.

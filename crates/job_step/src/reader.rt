@@ -1,9 +1,6 @@
 //! The lines of a scenario. A line is read only when it is wanted, so a program may wait for one answer before it writes the
 //! next line.
 
-ghost use Rattle.std.specs.Prelude.{IfErr};
-ghost use Rattle.job_step.specs.Faults.{IsStepFault};
-
 use job_media::with_sizes;
 use job_scenario::ScenarioLine;
 use job_script::{JobError, LIMIT, Refusal};
@@ -18,7 +15,7 @@ pub struct ScenarioReader<R: Read + Drop> {
     alloc: Global,
     reader: BufReader<Take<R>>,
     /// The sizes of images, by the numbers of their units.
-    pub sizes: Vec<Option<Size>>,
+    sizes: Vec<Option<Size>>,
     /// The bytes of the current line.
     line: Vec<u8>,
     /// How many lines were read.
@@ -29,9 +26,7 @@ pub struct ScenarioReader<R: Read + Drop> {
 
 impl<R: Read + Drop> ScenarioReader<R> {
     /// The lines of this reader, before the first one. Lines of units have the sizes of their images in place of hyphens.
-    pub fn new(alloc: Global, reader: R, sizes: Vec<Option<Size>>) -> Result<Self, JobError>
-        ensures { IfErr result IsStepFault }
-    {
+    pub fn new(alloc: Global, reader: R, sizes: Vec<Option<Size>>) -> Result<Self, JobError> {
         let Ok(reader) = BufReader::new(alloc, reader.take(LIMIT as u64 + 1)) else {
             return Err(JobError::NoMemory);
         };
@@ -46,9 +41,7 @@ impl<R: Read + Drop> ScenarioReader<R> {
     }
 
     /// Reads the bytes of the next line, and returns whether there is one.
-    pub fn next(&mut self) -> Result<bool, JobError>
-        ensures { IfErr result IsStepFault }
-    {
+    pub fn next(&mut self) -> Result<bool, JobError> {
         self.line.clear();
         let count = match self.reader.read_until(b'\n', &mut self.line) {
             Ok(count) => count,

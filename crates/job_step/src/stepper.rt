@@ -1,8 +1,7 @@
 //! Makes the steps of all events, and hands over what they left.
 
-ghost use Rattle.std.specs.Prelude.{◌≤◌, All, IfErr, length};
+ghost use Rattle.std.specs.Prelude.{◌≤◌, All, length};
 ghost use Rattle.job_mount.specs.Books.{IsFresh};
-ghost use Rattle.job_step.specs.Faults.{IsStepFault};
 
 use crate::answer::write_end;
 use crate::dialog::Dialog;
@@ -60,9 +59,7 @@ impl<'a> Stepper<'a> {
         &mut self,
         dialog: &mut Dialog<'_, I, W, E>,
         media: &mut KeptMedia<'_, K>,
-    ) -> Result<(), JobError>
-        ensures { IfErr result IsStepFault }
-    {
+    ) -> Result<(), JobError> {
         for _ in 0..=LIMIT {
             let Some(mut steps) = dialog.next(self.set_up)? else {
                 break;
@@ -119,9 +116,7 @@ impl<'a> Stepper<'a> {
         &self,
         title: &str,
         media: &mut KeptMedia<'_, K>,
-    ) -> Result<(), JobError>
-        ensures { IfErr result IsStepFault }
-    {
+    ) -> Result<(), JobError> {
         let site = self.site.site();
         for unit in 0..site.units().min(65_536) {
             media.keep(unit as u16, site.book(unit as u16));

@@ -11,9 +11,8 @@
 mod locked;
 mod scenario;
 
-use job_check::Source;
 use job_script::JobError;
-use job_step::{Dialog, Printer, Purpose, Views};
+use job_step::{Dialog, Printer, Source, Views};
 use scenario::with_rows;
 use std::env;
 use std::process::ExitCode;
@@ -30,11 +29,14 @@ fn main(rt: HostRuntime) -> ExitCode {
     }
 }
 
-/// Carries out the scenario on standard input. Returns whether no line has a fault and all expectations are met.
+/// Carries out the scenario on standard input. Returns whether all expectations are met.
 fn carry_out<R: Wait>(rt: &HostRuntime, waits: &R) -> Result<bool, JobError> {
     let alloc = rt.alloc();
     let has_views = env::args(rt).is_ok_and(|words| words.count() > 1);
-    let source = Source::new("<stdin>", false);
+    let source = Source {
+        name: "<stdin>",
+        is_coloured: false,
+    };
     let views = Views {
         trace: has_views,
         state: has_views,
@@ -42,9 +44,8 @@ fn carry_out<R: Wait>(rt: &HostRuntime, waits: &R) -> Result<bool, JobError> {
     let (mut out, mut errors) = (rt.stdout(), rt.stderr());
     let printer = Printer::new(alloc, &mut out, &mut errors, source);
     let sizes = Vec::new(alloc);
-    let mut dialog = Dialog::new(alloc, Purpose::Step, rt.stdin(), sizes, printer)?;
-    if let Some(plan) = dialog.set_up()? {
-        with_rows(waits, alloc, &plan, views, &mut dialog)?;
-    }
+    let mut dialog = Dialog::new(alloc, rt.stdin(), sizes, printer)?;
+    let plan = dialog.set_up()?;
+    with_rows(waits, alloc, &plan, views, &mut dialog)?;
     Ok(dialog.printer.is_met())
 }

@@ -31,9 +31,7 @@ pub fn with_rows<R: Wait, I: Read + Drop, W: Write, E: Write>(
     let units = plan.set_up.units.len() as u16;
     let (intake, post) = (plan.rooms.intake(), plan.rooms.post());
     let mut rows = Rows::new(alloc, plan.set_up.tasks, units, intake, post)?;
-    let Some(books) = dialog.books(plan, Vec::new(alloc), &[])? else {
-        return Ok(());
-    };
+    let books = plan.books(alloc, Vec::new(alloc))?;
     let view = View::new(alloc, views, &books)?;
     let past = StepPast::new(alloc, usize::from(plan.set_up.tasks), &books)?;
     on_site::<Brand, R, I, W, E>(

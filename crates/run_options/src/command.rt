@@ -1,4 +1,4 @@
-//! The command line of `excp_job`, as `clap` takes it, and what every program's has.
+//! The command line of `excp_job`, as `clap` takes it.
 
 use crate::VERSION;
 use crate::counts::{
@@ -27,19 +27,15 @@ const LINES: &str = "Lines of a script; tasks, units and areas are numbered from
   close T U DCB                      reset T U DCB
   # ...                              a comment";
 
-/// A program of this name, without its subcommands.
-pub fn program<'a>(alloc: Global, name: &'a str) -> Command<'a> {
-    Command::new(alloc, name)
+/// The whole command line.
+pub fn command<'a>(alloc: Global) -> Result<Command<'a>, AllocError> {
+    let run = run(alloc)?;
+    Command::new(alloc, PROGRAM)
         .about("Runs a script of EXCP requests on models of disk, tape and printer")
         .version(VERSION)
         .after_help(LINES)
         .subcommand_required(true)
-}
-
-/// The whole command line of `excp_job`.
-pub fn command<'a>(alloc: Global) -> Result<Command<'a>, AllocError> {
-    let run = run(alloc)?;
-    program(alloc, PROGRAM).subcommand(run)
+        .subcommand(run)
 }
 
 /// The subcommand `run`.

@@ -1,5 +1,4 @@
-//! The command line of `excp_job`, by `clap`: `run` with `--channels N` and `--handlers N`. The crate also has what the command
-//! line of the other program shares with it, which is in job_options.
+//! The command line of `excp_job`, by `clap`: `run` with `--channels N` and `--handlers N`.
 //!
 //! Tests: `tests/run command_line`.
 #![tactic(auto)]
@@ -10,11 +9,8 @@ mod counts;
 use clap::Error;
 use clap::error::ErrorKind;
 use command::command;
-pub use command::program;
-pub use counts::{
-    CHANNELS, CHANNELS_HELP, Counts, HANDLERS, HANDLERS_HELP, MOST_CHANNELS, MOST_HANDLERS,
-    counts_of,
-};
+pub use counts::Counts;
+use counts::counts_of;
 use std::alloc::Global;
 
 /// The version of the programs. `./excp` and the documents read it from this line.

@@ -3,10 +3,10 @@ chapters 15 and 16)."""
 
 from __future__ import annotations
 
-from typing import NamedTuple
+from typing import NamedTuple, Optional
 
 from ..device_commands import Flag, Flow
-from ..script.ccw import CCW_BYTES, RESERVED, Ccw
+from ..script.ccw import CCW_BYTES, RESERVED, PlacedCcw
 from ..script.grammar import Area
 
 _MOST_CHAINED = 16
@@ -35,11 +35,15 @@ class Broken(Exception):
         self.is_of_word = is_of_word
 
 
-def fetched(area: Area, at: int, may_transfer: bool) -> list[Ccw]:
+def fetched(
+    area: Area, at: int, may_transfer: bool, places: Optional[set[int]] = None
+) -> list[PlacedCcw]:
     """The CCWs of the command at an address. A transfer in channel may come before each, if it may
-    come before the first. Raises Broken."""
-    chain: list[Ccw] = []
+    come before the first. Adds to `places` where all of them are. Raises Broken."""
+    chain: list[PlacedCcw] = []
     while True:
+        if places is not None:
+            places.add(at)
         ccw = _ccw_at(area, at)
         if ccw.is_transfer:
             if not may_transfer:
@@ -56,16 +60,16 @@ def fetched(area: Area, at: int, may_transfer: bool) -> list[Ccw]:
         at, may_transfer = at + CCW_BYTES, True
 
 
-def _ccw_at(area: Area, at: int) -> Ccw:
+def _ccw_at(area: Area, at: int) -> PlacedCcw:
     if at % CCW_BYTES:
         raise Broken(at, "the CCW does not lie on a doubleword")
     image = area.get(at, CCW_BYTES)
     if image is None:
         raise Broken(at, "the CCW does not lie in the area")
-    return Ccw.of(at, image)
+    return PlacedCcw.of(at, image)
 
 
-def _check_ccw(ccw: Ccw, place: int) -> None:
+def _check_ccw(ccw: PlacedCcw, place: int) -> None:
     """The rules on a CCW that is no transfer, at this place of its chain."""
     if place == 0 and ccw.command % 16 == 0:
         raise Broken(ccw.at, "the low four bits of the command are zero")
@@ -77,7 +81,7 @@ def _check_ccw(ccw: Ccw, place: int) -> None:
         raise Broken(ccw.at, f"the data chain has more than {_MOST_CHAINED} CCWs")
 
 
-def parts_of(area: Area, flow: Flow, ccw: Ccw) -> list[Part]:
+def parts_of(area: Area, flow: Flow, ccw: PlacedCcw) -> list[Part]:
     """The parts of storage that a CCW names for data of this way. Raises Broken."""
     if flow is Flow.NONE:
         return []
@@ -92,7 +96,7 @@ def parts_of(area: Area, flow: Flow, ccw: Ccw) -> list[Part]:
     return [Part(ccw.address, ccw.count)]
 
 
-def _indirect_parts(area: Area, ccw: Ccw) -> list[Part]:
+def _indirect_parts(area: Area, ccw: PlacedCcw) -> list[Part]:
     if ccw.address % 4:
         raise Broken(ccw.at, "the list of indirect addresses does not lie on a fullword")
     parts: list[Part] = []

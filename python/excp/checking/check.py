@@ -22,6 +22,7 @@ from ..symbols import Assembled
 from .assumed import Assumed
 from .line_faults import refused_line
 from .loaded import NO_IMAGES, Images, with_sizes
+from .ordinals import unmet_faults
 from .races import OUTCOMES, Races
 from .requests import rejection_of
 from .units import UnitCheck, at_word
@@ -174,9 +175,12 @@ class _Check:
         warnings = self._races.warnings(self._set_up.units)
         races = [Finding(line, text) for line, text in warnings]
         self.findings += races
+        if any(finding.is_fault for finding in self.findings):
+            return
         if races or self._races.has_early:
-            if not any(finding.is_fault for finding in self.findings):
-                self.findings.append(Finding(None, OUTCOMES))
+            self.findings.append(Finding(None, OUTCOMES))
+        unmet = unmet_faults(self._set_up.units, self._set_up.areas, self._requests)
+        self.findings += [Finding(line, text) for line, text in unmet]
 
     def _check_units(self) -> None:
         areas, assumed = self._set_up.areas, self._assumed.lines

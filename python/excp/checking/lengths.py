@@ -5,7 +5,7 @@ from __future__ import annotations
 from typing import TYPE_CHECKING, Callable, Optional, Sequence
 
 from ..device_commands import DISK, PRINTER, TAPE, Flag, Flow, Op
-from ..script.ccw import Ccw
+from ..script.ccw import PlacedCcw
 from ..script.reading import count_of
 from .channel import Part
 from .records import RecordLengths
@@ -32,7 +32,7 @@ class Lengths:
     def wrong_length(
         self,
         flow: Flow,
-        chain: Sequence[Ccw],
+        chain: Sequence[PlacedCcw],
         parts: Sequence[Part],
         cover: Callable[[int], bool],
     ) -> Optional[str]:
@@ -55,7 +55,7 @@ class Lengths:
             return f"{incorrect}, and {each}; SLI hides that"
         return None
 
-    def _taken(self, flow: Flow, ccw: Ccw, sought: Optional[RecordLengths]) -> Optional[int]:
+    def _taken(self, flow: Flow, ccw: PlacedCcw, sought: Optional[RecordLengths]) -> Optional[int]:
         """How many bytes the device takes, if that is known."""
         device = self._program.unit.device
         if device == PRINTER and flow is Flow.OUT:
@@ -69,7 +69,7 @@ class Lengths:
         return None
 
     def _least(
-        self, ccw: Ccw, sought: Optional[RecordLengths], is_after_search: bool
+        self, ccw: PlacedCcw, sought: Optional[RecordLengths], is_after_search: bool
     ) -> Optional[int]:
         """The bytes that each record has at least which a command can read, if they are known."""
         program = self._program
@@ -82,7 +82,7 @@ class Lengths:
         return program.records.shortest(program.seek.cylinder, program.seek.head, is_after_search)
 
     def _record_sought(
-        self, ccw: Ccw, parts: Sequence[Part], cover: Callable[[int], bool]
+        self, ccw: PlacedCcw, parts: Sequence[Part], cover: Callable[[int], bool]
     ) -> Optional[RecordLengths]:
         """The record for whose ID a command searches, if it is the only one with this ID. An
         earlier command may not have read over the ID."""

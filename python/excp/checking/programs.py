@@ -27,7 +27,7 @@ def sure_failure(
 ) -> Optional[Failure]:
     """Why a request is sure to fail, if it is. `records` are those of its unit, and `is_kept` says
     that no request changes the length of one."""
-    iob = iob_of(excp, area)
+    iob = iob_of(excp.iob, area)
     if iob is None or wrong_extents(unit, opening) is not None:
         return None
     if isinstance(unit.says, Disk) and not _passes_check(unit.says, opening, iob.seek):

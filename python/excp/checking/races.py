@@ -101,7 +101,7 @@ class Races:
         self._of_tasks.setdefault(excp.task, user)
         self._of_units[excp.unit].add(user)
         self._of_dcbs[dcb].add(user)
-        iob = None if area is None else iob_of(excp, area)
+        iob = None if area is None else iob_of(excp.iob, area)
         if iob is not None and not iob.is_unrelated:
             self._related[dcb].add(user)
 

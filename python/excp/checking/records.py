@@ -3,9 +3,9 @@
 from __future__ import annotations
 
 import struct
-from typing import Iterable, NamedTuple, Optional, Protocol
+from typing import Iterable, NamedTuple, Optional, Protocol, Sequence
 
-from ..images.media import Disk, Medium
+from ..images.measured import DiskFile, MeasuredImage
 from ..script.grammar import Block
 from ..script.set_up import Unit
 
@@ -54,26 +54,43 @@ class RecordsOfLines:
         return _least([*blocks, *of_track], has_r0)
 
 
+class _Record(NamedTuple):
+    """A record of a track from an image: CCHHR, and its lengths."""
+
+    identifier: bytes
+    lengths: RecordLengths
+
+
 class RecordsOfImage:
     """The records of a medium from an image. An ID may be that of another track."""
 
-    def __init__(self, medium: Medium) -> None:
-        self._medium = medium
+    def __init__(self, image: MeasuredImage) -> None:
+        self._image = image
+        # The tracks that were read so far, by their numbers.
+        self._tracks: dict[int, Sequence[_Record]] = {}
 
     def only_one(self, cylinder: int, head: int, identifier: bytes) -> Optional[RecordLengths]:
-        if not isinstance(self._medium, Disk):
-            return None
-        track = self._medium.tracks[cylinder * self._medium.size.heads + head]
-        found = [record for record in track if record.id == identifier]
-        if len(found) != 1:
-            return None
-        return RecordLengths(len(found[0].key), len(found[0].data))
+        track = self._track(cylinder, head)
+        found = [record.lengths for record in track if record.identifier == identifier]
+        return found[0] if len(found) == 1 else None
 
     def shortest(self, cylinder: int, head: int, has_r0: bool) -> Optional[int]:
-        if not isinstance(self._medium, Disk):
-            return _least((len(item) for item in self._medium.items if item is not None), has_r0)
-        track = self._medium.tracks[cylinder * self._medium.size.heads + head]
-        return _least((len(record.data) for record in track[1:]), has_r0)
+        if not isinstance(self._image, DiskFile):
+            return self._image.shortest
+        return _least((it.lengths.data for it in self._track(cylinder, head)[1:]), has_r0)
+
+    def _track(self, cylinder: int, head: int) -> Sequence[_Record]:
+        """The records of a track, with R0; of a tape none."""
+        image = self._image
+        if not isinstance(image, DiskFile):
+            return ()
+        number = cylinder * image.size.heads + head
+        if number not in self._tracks:
+            self._tracks[number] = [
+                _Record(it.id, RecordLengths(len(it.key), len(it.data)))
+                for it in image.track(number)
+            ]
+        return self._tracks[number]
 
 
 def _least(lengths: Iterable[int], has_r0: bool) -> Optional[int]:
@@ -84,8 +101,8 @@ def _least(lengths: Iterable[int], has_r0: bool) -> Optional[int]:
     return min(least, _R0.data) if has_r0 else least
 
 
-def records_of(unit: Unit, medium: Optional[Medium]) -> Records:
-    """The records of a unit, which has this medium if it is from an image."""
-    if medium is None:
+def records_of(unit: Unit, image: Optional[MeasuredImage]) -> Records:
+    """The records of a unit, whose medium is from this image if there is one."""
+    if image is None:
         return RecordsOfLines(unit)
-    return RecordsOfImage(medium)
+    return RecordsOfImage(image)

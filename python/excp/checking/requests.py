@@ -23,7 +23,7 @@ _ADDRESS_BITS = 0xFFFFFF
 _ECB_AT, _START_AT, _DCB_AT, EXTENT_AT, CYLINDER_AT = 5, 17, 22, 32, 35
 
 
-class Iob(NamedTuple):
+class IobFields(NamedTuple):
     """The fields of an IOB that a request is made of."""
 
     is_unrelated: bool
@@ -42,15 +42,15 @@ class Rejection(NamedTuple):
     sentence_at: str = ""
 
 
-def iob_of(excp: Excp, area: Area) -> Optional[Iob]:
-    """The IOB of a request, if it lies in the area."""
-    image = area.get(excp.iob, _IOB_BYTES)
+def iob_of(at: int, area: Area) -> Optional[IobFields]:
+    """The IOB at an address, if it lies in the area."""
+    image = area.get(at, _IOB_BYTES)
     if image is None:
         return None
     flags, *words = struct.unpack(">B3xI8xII8x8x", image)
     ecb, start, dcb = (word & _ADDRESS_BITS for word in words)
     seek = Seek.from_bytes(image[EXTENT_AT:])
-    return Iob(bool(flags & _UNRELATED), ecb, start, dcb, seek)
+    return IobFields(bool(flags & _UNRELATED), ecb, start, dcb, seek)
 
 
 def rejection_of(excp: Excp, area: Area, line: int) -> Optional[Rejection]:
@@ -60,7 +60,7 @@ def rejection_of(excp: Excp, area: Area, line: int) -> Optional[Rejection]:
     extent = _extent(area)
     if excp.iob % _FULLWORD:
         return Rejection(f"the IOB at {excp.iob:06X} is not on a fullword boundary")
-    iob = iob_of(excp, area)
+    iob = iob_of(excp.iob, area)
     if iob is None:
         return Rejection(f"the IOB at {excp.iob:06X} does not lie in {where} {extent}")
     field = f"{where}, IOB {excp.iob:06X}, bytes"
@@ -83,7 +83,7 @@ def _extent(area: Area) -> str:
     return f"of {count_of(len(area.data), 'byte')} at {area.base:06X}"
 
 
-def _wrong_ecb(excp: Excp, iob: Iob, area: Area, field: str) -> Optional[Rejection]:
+def _wrong_ecb(excp: Excp, iob: IobFields, area: Area, field: str) -> Optional[Rejection]:
     at, ecb = excp.iob + _ECB_AT, f"{iob.ecb:06X}"
     if iob.ecb % _FULLWORD:
         boundary = f"{ecb} is not on a fullword boundary"
@@ -97,7 +97,7 @@ def _wrong_ecb(excp: Excp, iob: Iob, area: Area, field: str) -> Optional[Rejecti
     return None
 
 
-def _wrong_program(excp: Excp, iob: Iob, area: Area, field: str) -> Optional[Rejection]:
+def _wrong_program(excp: Excp, iob: IobFields, area: Area, field: str) -> Optional[Rejection]:
     at, start = excp.iob + _START_AT, f"{iob.start:06X}"
     if iob.start % _DOUBLEWORD:
         boundary = f"{start} is not on a doubleword boundary"

@@ -101,14 +101,14 @@ class _ScenarioCheck:
     def _faults_of_units(self) -> list[Finding]:
         """Why units are not mounted: the first image that does not fit its unit, or all else."""
         units = self._set_up.units
-        media = [(unit, self._images.get(number)) for number, unit in enumerate(units)]
-        for unit, medium in media:
-            misfit = None if medium is None else first_misfit(unit, medium)
+        images = [(unit, self._images.get(number)) for number, unit in enumerate(units)]
+        for unit, image in images:
+            misfit = None if image is None else first_misfit(unit, image)
             if misfit is not None:
                 return [Finding(misfit.line, misfit.sentence, FaultName.MEDIUM)]
         found: list[Finding] = []
-        for unit, medium in media:
-            found += unit_faults(unit) if medium is None else opening_faults(unit)
+        for unit, image in images:
+            found += unit_faults(unit) if image is None else opening_faults(unit)
         return found
 
     def _declare(self, line: Line, text: Text) -> None:

@@ -8,7 +8,7 @@ from typing import AbstractSet, Iterator, Optional, Sequence
 
 from ..device_commands import DISK
 from ..findings import FaultName, Finding
-from ..images.media import Medium
+from ..images.measured import MeasuredImage
 from ..script.grammar import Area, Excp
 from ..script.media import extent_faults, has_sizes, medium_faults
 from ..script.set_up import Unit
@@ -20,14 +20,14 @@ from .walk import Failure
 
 
 def unit_faults(
-    unit: Unit, medium: Optional[Medium] = None, assumed: AbstractSet[int] = frozenset()
+    unit: Unit, image: Optional[MeasuredImage] = None, assumed: AbstractSet[int] = frozenset()
 ) -> list[Finding]:
-    """Why a unit, which has this medium if it is from an image, cannot be mounted, and why its
+    """Why a unit, whose medium is from this image if there is one, cannot be mounted, and why its
     DCBs cannot be opened, but for those of assumed lines. If its sizes are wrong, its DCBs are not
     looked at."""
-    reasons = medium_faults(unit) if medium is None else loading_faults(unit, medium)
+    reasons = medium_faults(unit) if image is None else loading_faults(unit, image)
     found = [Finding(line, text, FaultName.MEDIUM) for line, text in reasons]
-    if medium is not None or has_sizes(unit):
+    if image is not None or has_sizes(unit):
         found += opening_faults(unit, assumed)
     return found
 
@@ -59,12 +59,12 @@ class UnitCheck:
         for number, unit in enumerate(units):
             if unit.says.line in self._assumed:
                 continue
-            medium = self._images.get(number)
-            faults = unit_faults(unit, medium, self._assumed)
+            image = self._images.get(number)
+            faults = unit_faults(unit, image, self._assumed)
             yield from faults
             if not any(fault.name is FaultName.MEDIUM for fault in faults):
                 yield from _doubles(unit)
-                records = records_of(unit, medium)
+                records = records_of(unit, image)
                 yield from self._sure_failures(number, unit, records)
 
     def _sure_failures(self, number: int, unit: Unit, records: Records) -> Iterator[Finding]:

@@ -7,7 +7,7 @@ from typing import NamedTuple, Optional, Sequence
 
 from ..blocks import Seek
 from ..device_commands import DISK, Flag, Flow, Op, command_of
-from ..script.ccw import CCW_BYTES, Ccw
+from ..script.ccw import CCW_BYTES, PlacedCcw
 from ..script.grammar import Area
 from ..script.set_up import Unit
 from .channel import Broken, Part, fetched, parts_of
@@ -116,7 +116,7 @@ class Walk:
                 at += CCW_BYTES
             self._last = code
 
-    def _step(self, at: int, is_first: bool) -> Sequence[Ccw]:
+    def _step(self, at: int, is_first: bool) -> Sequence[PlacedCcw]:
         """The CCWs of the command at an address, if the program goes on after them. Nothing is
         said of a CCW that earlier commands may have read over."""
         area = self._program.area
@@ -138,7 +138,7 @@ class Walk:
         self._reads.add(flow, parts)
         return chain
 
-    def _check(self, flow: Flow, chain: Sequence[Ccw], parts: Sequence[Part]) -> None:
+    def _check(self, flow: Flow, chain: Sequence[PlacedCcw], parts: Sequence[Part]) -> None:
         """Fails if a command is sure to fail, or leads nowhere."""
         first = chain[0]
         wrong = self._rejection(first)
@@ -149,7 +149,7 @@ class Walk:
         if wrong is not None:
             raise SureFailure(first.at, wrong)
 
-    def _rejection(self, first: Ccw) -> Optional[str]:
+    def _rejection(self, first: PlacedCcw) -> Optional[str]:
         """Why a device does not do a command: it has none of this code; or the file mask of the
         supervisor, which has sought, forbids it; or no search arms it."""
         code, device = first.command, self._program.unit.device
@@ -176,7 +176,7 @@ class Walk:
         needed = "search ID" if code == Op.WKD else "search"
         return f"the write at {rejected}: it needs a {needed} that finds its record before it"
 
-    def _wrong_end(self, chain: Sequence[Ccw]) -> Optional[str]:
+    def _wrong_end(self, chain: Sequence[PlacedCcw]) -> Optional[str]:
         """Why a program ends too early, or never."""
         first, last = chain[0], chain[-1]
         if self._program.is_disk and first.command in _SEARCHES:

@@ -5,6 +5,7 @@ from __future__ import annotations
 import argparse
 
 from ..checking import check_scenario, check_script
+from .options import unit_files
 from .script_file import add_script, read_plain, worth_printing
 from .streams import OUTPUT, REJECTED, ReaderGone, name_of, print_findings
 from .unit_files import add_load, load_images
@@ -25,10 +26,8 @@ def run(given: argparse.Namespace) -> int:
 
 
 def _checked(given: argparse.Namespace) -> int:
-    images = load_images(name_of(given.script), given.load)
-    script = read_plain(given.script, images, OUTPUT)
-    if script is None:
-        return REJECTED
+    images = load_images(name_of(given.script), unit_files(given, "load"))
+    script = read_plain(given.script, lambda: images, OUTPUT)
     if given.scenario:
         findings = check_scenario(script.script, images)
     else:

@@ -10,15 +10,13 @@ from ..device_commands import DISK, TAPE
 from ..files import targets
 from ..files.refusals import Unwritten
 from ..files.targets import Content, Output, Targets
-from ..findings import printable_name
 from ..images.aws import aws_image, het_image
-from ..images.ckd import MODELS, ckd_image, model_of
+from ..images.ckd import ckd_image, model_of, on_no_model
 from ..images.lines import disk_of, lines_of_image, tape_items
 from ..images.reading import Unreadable
-from ..script.reading import count_of
 from ..script.set_up import Unit
 from .script_unit import unit_of_script
-from .streams import OUTPUT, Ended, say, write_output
+from .streams import OUTPUT, Ended, of_file, say_removed, write_output
 
 # The name of an image that is standard output, or of a script that is standard input.
 _STREAM = "-"
@@ -33,9 +31,7 @@ def _ckd_image(unit: Unit) -> Iterator[bytes]:
     heads, track_bytes = disk.size.heads, disk.size.track_bytes
     model = model_of(heads, track_bytes)
     if model is None:
-        models = " ".join(f"{name} ({it.heads}, {it.track_bytes})" for name, it in MODELS.items())
-        numbers = f"{count_of(heads, 'head')} and {track_bytes} bytes a track"
-        raise _NoImage(f"no model of a disk has {numbers}; the models are {models}")
+        raise _NoImage(on_no_model(heads, track_bytes))
     return ckd_image(disk, model)
 
 
@@ -61,13 +57,14 @@ def add_arguments(parser: argparse.ArgumentParser) -> None:
     parser.add_argument("-o", "--output", metavar="OUT", help="the file of the image; - is output")
     parser.add_argument("--force", action="store_true", help="replaces a file whatever it holds")
     parser.add_argument("script", metavar="FILE")
-    parser.set_defaults(usage_error=parser.error)
 
 
 def run(given: argparse.Namespace) -> int:
     """Prints the lines of an image, or makes one."""
     if (given.to is None) != (given.output is None):
         given.usage_error("--to FORMAT and --output OUT go together")
+    if given.force and given.to is None:
+        given.usage_error("--force needs --to FORMAT and --output OUT, which make a file")
     if given.to is None:
         _print_lines(given.script)
     else:
@@ -79,12 +76,8 @@ def _print_lines(name: str) -> None:
     try:
         lines = lines_of_image(name)
     except Unreadable as error:
-        raise _of_file(name, error.sentence) from None
+        raise of_file(name, error.sentence) from None
     write_output(f"{line}\n".encode("ascii") for line in lines)
-
-
-def _of_file(name: str, sentence: str) -> Ended:
-    return Ended(f"{printable_name(name)}: {sentence}")
 
 
 def _make_image(form: _Format, name: str, output: str, force: bool) -> None:
@@ -98,16 +91,10 @@ def _make_image(form: _Format, name: str, output: str, force: bool) -> None:
     files = Targets(script, force)
     target = Output(output, form.content)
     try:
-        _note_removed(output, files.check(target))
-        _note_removed(output, files.write(target, _image_of(form, script, output)))
+        say_removed(output, files.check(target))
+        say_removed(output, files.write(target, _image_of(form, script, output)))
     except Unwritten as error:
-        raise _of_file(error.name, error.sentence) from None
-
-
-def _note_removed(output: str, removed: Optional[str]) -> None:
-    if removed is not None:
-        left = f"{printable_name(removed)}, which a run that was killed left"
-        say(f"{printable_name(output)}: {left}, was removed")
+        raise of_file(error.name, error.sentence) from None
 
 
 def _image_of(form: _Format, script: Optional[str], output: str) -> Iterable[bytes]:
@@ -116,7 +103,7 @@ def _image_of(form: _Format, script: Optional[str], output: str) -> Iterable[byt
     try:
         return form.image(unit)
     except _NoImage as error:
-        raise _of_file(output, str(error)) from None
+        raise of_file(output, str(error)) from None
 
 
 def _why_no_image(form: _Format, unit: Unit) -> Optional[str]:

@@ -7,7 +7,8 @@ import argparse
 from ..findings import printable_name
 from ..images.describe import described
 from ..images.reading import Unreadable
-from .streams import REJECTED, say, write_output
+from ..programs.telling import note
+from .streams import REJECTED, write_output
 
 
 def add_arguments(parser: argparse.ArgumentParser) -> None:
@@ -25,7 +26,7 @@ def _describe(name: str) -> int:
     try:
         first, *others = described(name)
     except Unreadable as error:
-        say(f"{title}: {error.sentence}")
+        note(f"{title}: {error.sentence}")
         return REJECTED
     lines = (f"{title}: {first}\n", *(f"  {line}\n" for line in others))
     write_output([line.encode("utf-8", "surrogateescape") for line in lines])

@@ -14,7 +14,7 @@ from ..script.limits import MOST_SCRIPT_BYTES
 from ..symbols import Assembled, assemble, has_symbols
 from .run import copy_errors, in_memory
 from .script_file import worth_printing
-from .streams import ERRORS, REJECTED, print_findings
+from .streams import ERRORS, REJECTED, STANDARD_INPUT, image_in, print_findings
 
 
 def after_fault(
@@ -23,6 +23,10 @@ def after_fault(
     """Says why a program has rejected a script; or runs it once more if it has symbols. Returns the
     exit status."""
     text = given.read(MOST_SCRIPT_BYTES + 1)
+    image = image_in(None if script == STANDARD_INPUT else script, text)
+    if image is not None:
+        note(image)
+        return REJECTED
     is_whole = len(text) <= MOST_SCRIPT_BYTES
     if is_whole and has_symbols(text):
         return _run_assembled(command, script, text)
@@ -40,9 +44,7 @@ def _run_assembled(command: Sequence[str], name: str, text: bytes) -> int:
         return REJECTED
     if os.isatty(ERRORS):
         note(f"{printable_name(name)} has symbols: runs what assemble makes of it")
-    with in_memory() as plain, in_memory() as errors:
-        plain.write(script.script)
-        plain.seek(0)
+    with in_memory(script.script) as plain, in_memory() as errors:
         status = ended(command, plain, errors)
         if status != REJECTED or not _prints_fault(script, text, name):
             copy_errors(errors)

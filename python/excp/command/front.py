@@ -2,7 +2,6 @@
 
 from __future__ import annotations
 
-import os
 import sys
 from pathlib import Path
 from typing import List, Sequence, Tuple
@@ -13,23 +12,15 @@ from ..programs.home import Home, home
 from ..programs.telling import note, tell
 from .help import page_of
 from .main import end_of, main
-from .streams import REJECTED, USAGE, write_output
-from .words import TOOLS, WORDS, is_of_package
+from .streams import USAGE, Ended, write_output
+from .words import WORDS
 
 # The options that ask for a page of help.
 _HELP = ("-h", "--help")
 
 _NO_OPTION = (
-    "{}: there is no such option, or no script is named; ./excp --help lists the options"
+    "{}: there is no such option, or no script is named; excp --help lists the options"
 )
-
-
-class Stop(Exception):
-    """The command ends with a text on standard error, and this exit status."""
-
-    def __init__(self, status: int, text: str) -> None:
-        super().__init__(text)
-        self.status, self.text = status, text
 
 
 def front(argv: Sequence[str]) -> int:
@@ -37,9 +28,6 @@ def front(argv: Sequence[str]) -> int:
     it fails, and never raises."""
     try:
         return end_of(lambda: _carried_out(home(), list(argv)))
-    except Stop as stop:
-        note(stop.text)
-        return stop.status
     except NotBuilt as error:
         if error.text:
             note(error.text)
@@ -57,7 +45,7 @@ def _carried_out(here: Home, words: List[str]) -> int:
         return _print_page("excp" if len(words) == 1 else words[1])
     if words[0] == "run":
         return _run(here, mode, words[1:])
-    if words[0] in (*WORDS, *TOOLS):
+    if words[0] in WORDS:
         return _word(here, mode, words)
     # the script is the first word, or the last one behind options
     return _script(here, mode, words, may_be_word=True)
@@ -73,7 +61,7 @@ def _mode_of(words: List[str]) -> Tuple[Mode, List[str]]:
 
 def _build(here: Home, words: List[str]) -> int:
     if words[1:] not in ([], ["run"]):
-        raise Stop(USAGE, "--build: no more words, or run")
+        raise Ended("--build: no more words, or run", USAGE)
     build(here, "build", *words[1:])
     return 0
 
@@ -81,12 +69,13 @@ def _build(here: Home, words: List[str]) -> int:
 def _install(here: Home, words: List[str]) -> int:
     from ..programs.install import install
 
-    if len(words) != 2 or words[1][:1] in ("", "-"):
-        raise Stop(USAGE, "--install: name one folder to install in, as --install ~/.local")
+    takes_unproved = words[2:] == ["--unproved"]
+    if len(words) != 2 + takes_unproved or words[1][:1] in ("", "-"):
+        raise Ended("--install: name one folder to install in, as --install ~/.local", USAGE)
     try:
-        install(here, Path(words[1]))
+        install(here, Path(words[1]), takes_unproved)
     except OSError as error:
-        raise Stop(1, f"{error.filename}: {error.strerror}") from None
+        raise Ended(f"{error.filename}: {error.strerror}") from None
     return 0
 
 
@@ -103,7 +92,7 @@ _OWN = {"--build": _build, "--install": _install, "--version": _version, "-V": _
 def _page(word: str) -> str:
     page = page_of("excp" if word == "run" else word)
     if page is None:
-        raise Stop(USAGE, f"{word}: there is no such subcommand; ./excp --help lists them")
+        raise Ended(f"{word}: there is no such subcommand; excp --help lists them", USAGE)
     return page
 
 
@@ -124,29 +113,26 @@ def _run(here: Home, mode: Mode, words: List[str]) -> int:
 
 
 def _word(here: Home, mode: Mode, words: List[str]) -> int:
-    """Carries out a word: here if it is Python, else by the program that has it."""
     if len(words) == 2 and words[1] in _HELP:
         return _print_page(words[0])
-    if is_of_package(words):
-        return main(words)
-    program = str(choose(here, "excp_tools", mode))
-    os.execv(program, [program, *words])
+    return main(words, lambda program: choose(here, program, mode))
 
 
 def _script(here: Home, mode: Mode, words: List[str], may_be_word: bool) -> int:
     """Runs a script, which is the first word, or the last one behind options."""
-    from .run import NotOpened, Run, run_script
+    from .run import Run, run_script
 
     is_last = _is_option(words[0])
     script = words[-1] if is_last else words[0]
     if _is_option(script):
-        raise Stop(USAGE, _NO_OPTION.format(script))
+        raise Ended(_NO_OPTION.format(script), USAGE)
     try:
         return run_script(Run(here, mode, words[:-1] if is_last else words[1:]), script)
-    except NotOpened as error:
+    except Ended as error:
         is_missing = isinstance(error.__cause__, (FileNotFoundError, NotADirectoryError))
-        no_word = _no_word(script) if may_be_word and is_missing else ""
-        raise Stop(REJECTED, f"{error}{no_word}") from None
+        if not may_be_word or not is_missing:
+            raise
+        raise Ended(f"{error.text}{_no_word(script)}") from None
 
 
 def _is_option(word: str) -> bool:
@@ -157,6 +143,6 @@ def _no_word(word: str) -> str:
     """What is added to the text on a file that is missing: it may be a word that is misspelt."""
     from ..script.suggestions import nearest
 
-    near = nearest(word, [*WORDS, *TOOLS])
-    instead = f"did you mean '{near}'?" if near else "./excp --help lists them"
+    near = nearest(word, list(WORDS))
+    instead = f"did you mean '{near}'?" if near else "excp --help lists them"
     return f", and no such subcommand; {instead}"

@@ -1,4 +1,4 @@
-"""The parser of the command line, with the pages of docs/help and errors in one voice."""
+"""The parser of the command line, with the pages of help and errors in one voice."""
 
 from __future__ import annotations
 
@@ -25,4 +25,4 @@ class WordParser(argparse.ArgumentParser):
 
     def error(self, message: str) -> NoReturn:
         where = "" if self.word == COMMAND else f"{self.word}: "
-        raise Ended(f"{where}{message}; {self.prog} --help lists the options", USAGE, COMMAND)
+        raise Ended(f"{where}{message}; {self.prog} --help lists the options", USAGE)

@@ -1,32 +1,80 @@
-"""`report --listing`: prints a script with each area in symbols. Runs nothing."""
+"""`report`: runs a script, and prints its posts and what the run left behind; with `--listing` it
+runs nothing, and prints the script with each area in symbols."""
 
 from __future__ import annotations
 
 import argparse
+from typing import Optional
 
 from ..checking import check_script, has_rejected_line
 from ..checking.loaded import with_sizes
-from ..symbols.listing import listing
-from .script_file import add_script, read_plain, worth_printing
-from .streams import (
-    COMMAND, ERRORS, REJECTED, USAGE, Ended, name_of, print_findings, write_output,
+from .options import (
+    MOST, add_workers, check_exclusions, is_given, number, unit_files, words_of,
 )
-from .unit_files import add_load, load_images
+from .script_file import add_script, read_plain, worth_printing
+from .streams import ERRORS, REJECTED, name_of, print_findings, write_output
+from .unit_files import add_load, add_save, load_images
+
+_FORMS = {
+    "steps": "every command of each history too",
+    "json": "all of a report as JSON",
+    "html": "all of a report as one page for a browser",
+    "posts": "the posts and their count alone",
+    "listing": "runs nothing: each area in symbols",
+}
+_WITH_MOST = ("steps", "json")
+
+_EXCLUSIONS = {"seed": ("channels", "handlers")}
+_OF_LISTING = {"listing": ("seed", "save", "channels", "handlers")}
 
 
 def add_arguments(parser: argparse.ArgumentParser) -> None:
-    parser.add_argument("--listing", action="store_true", help="each area in symbols")
+    add_workers(parser)
+    forms = parser.add_mutually_exclusive_group()
+    for name, says in _FORMS.items():
+        forms.add_argument(f"--{name}", action="store_true", help=says)
+    parser.add_argument("--most-steps", type=number(1, MOST), metavar="N", help="so many commands")
+    parser.add_argument("--seed", type=number(0, MOST), metavar="N", help="by its schedule")
+    parser.add_argument("--scenario", metavar="FILE", help="writes the schedule as a scenario")
     add_load(parser)
+    add_save(parser)
     add_script(parser)
 
 
 def run(given: argparse.Namespace) -> int:
-    if not given.listing:
-        raise Ended("report: this package has its listings alone: add --listing", USAGE, COMMAND)
-    images = load_images(name_of(given.script), given.load)
-    script = read_plain(given.script, images, ERRORS)
-    if script is None:
-        return REJECTED
+    check_exclusions(given, {**_EXCLUSIONS, **(_OF_LISTING if given.listing else {})})
+    form = next((name for name in _FORMS if is_given(given, name)), None)
+    if given.most_steps is not None and form not in _WITH_MOST:
+        given.usage_error("--most-steps N needs --steps or --json")
+    if given.scenario is not None and given.seed is None:
+        given.usage_error("--scenario FILE needs --seed N")
+    return _list(given) if given.listing else _report(given, form)
+
+
+def _report(given: argparse.Namespace, form: Optional[str]) -> int:
+    from .tool_run import carry_out
+    from .tools import Order
+    from .whole_script import read_job
+
+    order = Order.of(
+        given,
+        "report",
+        words_of(
+            form=form,
+            most=given.most_steps,
+            seed=given.seed,
+            channels=given.channels,
+            handlers=given.handlers,
+        ),
+    )
+    return carry_out(order, read_job(given.script, order.loads))
+
+
+def _list(given: argparse.Namespace) -> int:
+    from ..symbols.listing import listing
+
+    images = load_images(name_of(given.script), unit_files(given, "load"))
+    script = read_plain(given.script, lambda: images, ERRORS)
     findings = check_script(script, images)
     if has_rejected_line(findings):
         print_findings(worth_printing(findings, script.script), given.script, ERRORS)

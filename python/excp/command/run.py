@@ -12,17 +12,13 @@ import stat
 from dataclasses import dataclass
 from typing import BinaryIO, List, Sequence
 
-from ..files.opening import why_unopened
-from ..findings import printable_name
 from ..programs.children import ended
 from ..programs.choice import Mode, choose
 from ..programs.home import Home
 from ..script.limits import MOST_SCRIPT_BYTES
-from .streams import ERRORS, INPUT, REJECTED, STANDARD_INPUT
-
-
-class NotOpened(Exception):
-    """A script cannot be read: a text for standard error."""
+from .streams import (
+    COMMAND, ERRORS, REJECTED, STANDARD_INPUT, USAGE, Ended, opened_script,
+)
 
 
 @dataclass(frozen=True)
@@ -34,16 +30,58 @@ class Run:
     words: Sequence[str]
 
     def command(self) -> List[str]:
-        """The program with its words. Builds it if need be. Raises NotBuilt."""
-        return [str(choose(self.home, "excp_job", self.mode)), "run", *self.words]
+        """The program with its words. Builds it if need be. Raises Ended, and NotBuilt."""
+        options = run_options(self.words)
+        return [str(choose(self.home, "excp_job", self.mode)), "run", *options]
+
+
+def run_options(words: Sequence[str]) -> Sequence[str]:
+    """The options of a run, as `excp_job run` takes them. Raises Ended."""
+    if not words:
+        return []
+    # most runs have none, and need not wait for the modules that read them
+    from .options import add_workers
+    from .parser import WordParser
+
+    parser = WordParser(COMMAND)
+    add_workers(parser)
+    try:
+        given = vars(parser.parse_args(words))
+    except Ended:
+        _check_report(words)
+        raise
+    return [f"--{name}={value}" for name, value in given.items() if value is not None]
+
+
+def _check_report(words: Sequence[str]) -> None:
+    """Raises Ended if these are options of `report`, with a text that says so."""
+    from .parser import WordParser
+    from .report import add_arguments
+
+    parser = WordParser("report")
+    add_arguments(parser)
+    try:
+        given = parser.parse_args(words)
+    except Ended:
+        return
+    if given.script is None:
+        of_report = f"{' '.join(words)}: report takes this, and a run does not"
+        raise Ended(f"{of_report}; excp report --help lists the options", USAGE)
 
 
 def run_script(run: Run, script: str) -> int:
-    """Runs a script, standard input if its name is `-`. Returns the exit status. Raises NotBuilt,
-    and NotOpened."""
+    """Runs a script, standard input if its name is `-`. Returns the exit status. Raises Ended,
+    whose cause is an error of opening the script, and NotBuilt."""
+    try:
+        return _run_script(run, script)
+    except OSError as error:
+        raise Ended(f"excp_job cannot be run: {error.strerror}") from None
+
+
+def _run_script(run: Run, script: str) -> int:
     if script == "-":
         return _run_input(run)
-    with _opened(script) as given:
+    with opened_script(script) as given:
         command = run.command()
         if stat.S_ISREG(os.fstat(given.fileno()).st_mode):
             return _run_file(command, script, given)
@@ -55,25 +93,17 @@ def _run_input(run: Run) -> int:
     """Runs the script of standard input. The program says why if that cannot be read."""
     command = run.command()
     try:
-        with open(INPUT, "rb", closefd=False) as given, _copied(given) as copy:
-            return _run_file(command, STANDARD_INPUT, copy)
+        with opened_script(None) as given:
+            copy = _copied(given)
     except OSError:
         return ended(command)
-
-
-def _opened(script: str) -> BinaryIO:
-    try:
-        return open(script, "rb")
-    except (OSError, ValueError) as error:
-        raise NotOpened(f"{printable_name(script)}: {why_unopened(error)}") from error
+    with copy:
+        return _run_file(command, STANDARD_INPUT, copy)
 
 
 def _copied(given: BinaryIO) -> BinaryIO:
     """A file with the script of a pipe, as far as the program reads it."""
-    copy = in_memory()
-    copy.write(given.read(MOST_SCRIPT_BYTES + 1))
-    copy.seek(0)
-    return copy
+    return in_memory(given.read(MOST_SCRIPT_BYTES + 1))
 
 
 def _run_file(command: Sequence[str], script: str, given: BinaryIO) -> int:
@@ -91,9 +121,12 @@ def _run_file(command: Sequence[str], script: str, given: BinaryIO) -> int:
         return after_fault(command, script, given, errors)
 
 
-def in_memory() -> BinaryIO:
-    """A new file without a name, for what a program reads or writes."""
-    return open(os.memfd_create("excp"), "w+b")
+def in_memory(text: bytes = b"") -> BinaryIO:
+    """A new file without a name, with this text, for what a program reads or writes."""
+    file = open(os.memfd_create("excp"), "w+b")
+    file.write(text)
+    file.seek(0)
+    return file
 
 
 def copy_errors(errors: BinaryIO) -> None:

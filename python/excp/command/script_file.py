@@ -4,12 +4,12 @@ from __future__ import annotations
 
 import argparse
 from dataclasses import replace
-from typing import Optional, Sequence
+from typing import Callable, Optional, Sequence
 
 from ..checking.loaded import Images, with_sizes
 from ..findings import Finding
 from ..symbols import Assembled, assemble, has_symbols
-from .streams import print_findings, read_script
+from .streams import Rejected, print_findings, read_script
 
 
 # What is said of a file that is no text.
@@ -34,13 +34,15 @@ def worth_printing(findings: Sequence[Finding], text: bytes) -> Sequence[Finding
     return [replace(first, sentence=f"{first.sentence}{_NO_TEXT}")]
 
 
-def read_plain(file: Optional[str], images: Images, stream: int) -> Optional[Assembled]:
-    """The plain script of a file, some of whose media are images, assembled if it has symbols. If
-    it has mistakes, prints them on a stream, and returns None. Raises Ended."""
+def read_plain(file: Optional[str], images: Callable[[], Images], stream: int) -> Assembled:
+    """The plain script of a file, assembled if it has symbols. Only then it asks for the images of
+    units. Raises Ended, and Rejected after mistakes were printed on a stream."""
     text = read_script(file)
-    is_plain = not has_symbols(text)
-    script = Assembled(text) if is_plain else assemble(with_sizes(text, images))
+    if not has_symbols(text):
+        return Assembled(text)
+    # extents of a whole disk have the size of its image
+    script = assemble(with_sizes(text, images()))
     if script.findings:
         print_findings(worth_printing(script.findings, text), file, stream)
-        return None
+        raise Rejected
     return script

@@ -6,12 +6,12 @@ from typing import Callable, Optional, Sequence
 
 from ..checking import check_script, has_rejected_line
 from ..checking.loaded import NO_IMAGES
-from ..findings import FaultName, Finding, printable_name
+from ..findings import FaultName, Finding
 from ..script.grammar import Command
 from ..script.reading import Text, lines_of, read_script_line
 from ..script.set_up import SetUp, Unit
 from .script_file import read_plain, worth_printing
-from .streams import ERRORS, Ended, Rejected, name_of, print_findings
+from .streams import ERRORS, Rejected, name_of, of_file, print_findings
 
 
 def unit_of_script(file: Optional[str], why_not: Callable[[Unit], Optional[str]]) -> Unit:
@@ -20,16 +20,14 @@ def unit_of_script(file: Optional[str], why_not: Callable[[Unit], Optional[str]]
     `why_not` says why it is not the right one. Raises Rejected after it has printed what is found
     in the script, and Ended.
     """
-    script = read_plain(file, NO_IMAGES, ERRORS)
-    if script is None:
-        raise Rejected
+    script = read_plain(file, lambda: NO_IMAGES, ERRORS)
     findings = check_script(script)
     if has_rejected_line(findings):
         _reject(script.script, findings, file)
     units = _units_of(script.script)
     why = why_not(units[0]) if len(units) == 1 else "a script with one unit makes an image"
     if why is not None:
-        raise Ended(f"{printable_name(name_of(file))}: {why}")
+        raise of_file(name_of(file), why)
     if any(it.name is FaultName.MEDIUM for it in findings):
         _reject(script.script, findings, file)
     return units[0]

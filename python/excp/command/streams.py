@@ -10,33 +10,33 @@ from typing import BinaryIO, Iterable, Optional
 
 from ..files.opening import why_unopened
 from ..findings import Finding, printable_name, printed
+from ..programs.telling import note, tell
 from ..script.limits import MOST_SCRIPT_BYTES
 
 INPUT, OUTPUT, ERRORS = 0, 1, 2
 
-# Who says a text on standard error: what reads and writes files says it by a name that scripts look
-# for, and what reads the command line by its own.
-PROGRAM, COMMAND = "excp_job", "excp"
+# Who says a text on standard error.
+COMMAND = "excp"
 
 # The name of a script that is standard input.
 STANDARD_INPUT = "<stdin>"
 
-# Exit statuses: what was read is rejected; the command line is wrong; memory ran out.
+# Exit statuses: what was read is rejected; the command line is wrong; memory ran out, or this
+# program is at fault.
 REJECTED, USAGE, OUT_OF_MEMORY = 1, 2, 3
+FAILED = OUT_OF_MEMORY
 
-_NOT_UTF8 = (
-    "the name of the script's file is not UTF-8: give the script as standard input"
-)
+# Each image has a zero byte among its first ones.
+_FIRST_BYTES = 512
 
 
 class Ended(Exception):
-    """Why the command ends early: a text for standard error, the exit status, and who says it."""
+    """Why the command ends early: a text for standard error, and the exit status."""
 
-    def __init__(self, text: str, status: int = REJECTED, speaker: str = PROGRAM) -> None:
+    def __init__(self, text: str, status: int = REJECTED) -> None:
         super().__init__(text)
         self.text = text
         self.status = status
-        self.speaker = speaker
 
 
 class Rejected(Exception):
@@ -47,15 +47,6 @@ class ReaderGone(Exception):
     """Nothing reads the output any more. No text is printed."""
 
 
-def is_utf8(word: str) -> bool:
-    """Whether the bytes of a word of the command line are UTF-8."""
-    try:
-        os.fsencode(word).decode()
-    except UnicodeDecodeError:
-        return False
-    return True
-
-
 def name_of(file: Optional[str]) -> str:
     """The name of a script's file as findings have it; None is standard input."""
     return STANDARD_INPUT if file is None else file
@@ -64,24 +55,47 @@ def name_of(file: Optional[str]) -> str:
 def read_script(file: Optional[str]) -> bytes:
     """The text of a script, from a file, or from standard input if it is None. Raises Ended."""
     try:
-        with _opened(file) as script:
+        with opened_script(file) as script:
             text = script.read(MOST_SCRIPT_BYTES + 1)
     except OSError:
         raise Ended("script unreadable") from None
+    image = image_in(file, text)
+    if image is not None:
+        raise Ended(image)
     if len(text) > MOST_SCRIPT_BYTES:
         raise Ended("script too long")
     return text
 
 
-def _opened(file: Optional[str]) -> BinaryIO:
+def image_in(file: Optional[str], text: bytes) -> Optional[str]:
+    """The sentence on the text of a script that is an image, if it is one."""
+    if b"\0" not in text[:_FIRST_BYTES]:
+        return None
+    # no script needs to wait for the modules that read images
+    from ..images.kinds import image_kind
+
+    kind = image_kind(text)
+    if kind is None:
+        return None
+    name = printable_name(name_of(file))
+    instead = f"'describe {'FILE' if file is None else name}' prints what it holds"
+    return f"{name}: this is {kind}, not a script: {instead}"
+
+
+def opened_script(file: Optional[str]) -> BinaryIO:
+    """The open file of a script, standard input if it is None. Raises Ended, whose cause is the
+    error of opening it, and OSError for standard input that is closed."""
     if file is None:
         return open(INPUT, "rb", closefd=False)
-    if not is_utf8(file):
-        raise Ended(_NOT_UTF8)
     try:
         return open(file, "rb")
     except (OSError, ValueError) as error:
-        raise Ended(f"{printable_name(file)}: {why_unopened(error)}") from None
+        raise of_file(file, why_unopened(error)) from error
+
+
+def of_file(name: str, sentence: str) -> Ended:
+    """Why the command ends early: what is wrong with a file."""
+    return Ended(f"{printable_name(name)}: {sentence}")
 
 
 def write_output(parts: Iterable[bytes]) -> None:
@@ -97,13 +111,12 @@ def write_output(parts: Iterable[bytes]) -> None:
 
 def print_findings(findings: Iterable[Finding], file: Optional[str], stream: int) -> None:
     """Prints findings on standard output or standard error, with colours on a terminal."""
-    lines = printed(findings, name_of(file), takes_colour(stream))
     # all of them or none, if memory runs out
-    parts = [line.encode("utf-8", "surrogateescape") for line in lines]
+    text = "".join(printed(findings, name_of(file), takes_colour(stream)))
     if stream == OUTPUT:
-        write_output(parts)
+        write_output([text.encode("utf-8", "surrogateescape")])
     else:
-        _write_errors(b"".join(parts))
+        tell(text)
 
 
 def takes_colour(stream: int) -> bool:
@@ -111,14 +124,8 @@ def takes_colour(stream: int) -> bool:
     return os.isatty(stream) and not os.environ.get("NO_COLOR")
 
 
-def say(text: str, speaker: str = PROGRAM) -> None:
-    """Prints a text on standard error, if that can be written."""
-    _write_errors(f"{speaker}: {text}\n".encode("utf-8", "surrogateescape"))
-
-
-def _write_errors(text: bytes) -> None:
-    try:
-        with open(ERRORS, "wb", closefd=False) as errors:
-            errors.write(text)
-    except OSError:
-        pass
+def say_removed(file: str, removed: Optional[str]) -> None:
+    """Says that a new file of this name was removed beside a file, if one was."""
+    if removed is not None:
+        left = f"{printable_name(removed)}, which a run that was killed left"
+        note(f"{printable_name(file)}: {left}, was removed")

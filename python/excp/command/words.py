@@ -7,7 +7,7 @@ from __future__ import annotations
 
 import argparse
 from importlib import import_module
-from typing import Mapping, NamedTuple, Protocol, Sequence, cast
+from typing import Mapping, NamedTuple, Protocol, cast
 
 
 class WordModule(Protocol):
@@ -30,19 +30,12 @@ class Word(NamedTuple):
         return cast(WordModule, import_module(f"{__package__}.{self.module}"))
 
 
-# The words that the program excp_tools has: of `report` all but listings.
-TOOLS = ("report", "step", "outcomes")
-
-
-def is_of_package(words: Sequence[str]) -> bool:
-    """Whether the first of these words is carried out here, with these options."""
-    return words[0] in WORDS and (words[0] != "report" or "--listing" in words)
-
-
 WORDS: Mapping[str, Word] = {
     "assemble": Word("assemble", "Prints the plain script of one with symbolic areas"),
     "check": Word("check", "Prints every fault of a script, and warnings; runs nothing"),
     "convert": Word("convert", "Prints an image as lines of a script, or makes one of such lines"),
     "describe": Word("describe", "Prints what images of tapes and disks hold"),
-    "report": Word("report", "With --listing: the script with each area in symbols"),
+    "outcomes": Word("outcomes", "Prints the posts that each request can have, over all orders"),
+    "report": Word("report", "Prints the posts of a script, and what the run left behind"),
+    "step": Word("step", "Carries out a scenario event by event"),
 }

@@ -62,6 +62,8 @@ class Replacement:
         self._beside = self.target + BESIDE
         # the name of the new file that a killed run left, if there was one
         self.removed: Optional[str] = None
+        # the mode of the old file, if there is one
+        self._mode: Optional[int] = None
         shown = name + BESIDE if not os.path.islink(name) else self._beside
         if os.path.lexists(self._beside):
             _remove_left(self._beside, shown)
@@ -78,11 +80,18 @@ class Replacement:
             raise
 
     def _begin(self, descriptor: int, shown: str) -> None:
-        """Locks the new file, and gives it the mode of the old one, if there is an old one."""
+        """Locks the new file, and gives it the mode of the old one, if there is an old one. This
+        user may write it until its end."""
         if not _is_locked_here(descriptor) or not _is_at(self._beside, descriptor):
             raise Refused(_is_written(shown))
         with contextlib.suppress(FileNotFoundError):
-            os.fchmod(descriptor, stat.S_IMODE(os.stat(self.target).st_mode))
+            self._mode = stat.S_IMODE(os.stat(self.target).st_mode)
+            os.fchmod(descriptor, self._mode | stat.S_IWUSR)
+
+    @property
+    def descriptor(self) -> int:
+        """The open new file, for a program that fills it."""
+        return self._file.fileno()
 
     def fill(self, parts: Iterable[bytes]) -> None:
         """Writes the new file, and waits until it is on the disk. Raises EndAsked too."""
@@ -97,6 +106,8 @@ class Replacement:
         """Puts the new file in the place of the old one."""
         if not _is_at(self._beside, self._file.fileno()):
             raise Refused("another run has replaced the new file beside it")
+        if self._mode is not None:
+            os.fchmod(self._file.fileno(), self._mode)
         os.rename(self._beside, self.target)
         self._close()
 

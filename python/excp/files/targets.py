@@ -42,15 +42,18 @@ class Content:
 TAPE = Content("a tape image", frozenset({Held.TAPE}))
 PACKED_TAPE = Content("a compressed tape image", frozenset({Held.TAPE, Held.PACKED_TAPE}))
 DISK = Content("a disk image", frozenset({Held.DISK}))
+# What a unit may be loaded from, and is not saved as.
+PACKED = frozenset({Held.PACKED_TAPE, Held.OTHER_DISK})
 TEXT = Content("new text", frozenset())
 
 
 @dataclass(frozen=True)
 class Output:
-    """A file to write: its name, what is written, and the unit whose medium that is."""
+    """A file to write: its name, what is written, if that is known, and the unit whose medium that
+    is."""
 
     name: str
-    content: Content
+    content: Optional[Content]
     unit: Optional[int] = None
 
 
@@ -74,7 +77,7 @@ class _Source:
 
 
 class Targets:
-    """The rules for a call that reads a script, and loads and saves these media.
+    """The rules for a call that reads a script, loads and saves these media, and writes this text.
 
     `force` lifts the rules for what a file holds. Each method raises Unwritten.
     """
@@ -85,30 +88,37 @@ class Targets:
         force: bool = False,
         loads: Iterable[UnitFile] = (),
         saves: Iterable[UnitFile] = (),
+        text: Optional[str] = None,
     ) -> None:
         self._force = force
         self._sources: List[_Source] = []
         # the files that the command line names, with their units, as they were before the run
-        self._named: List[Tuple[int, str]] = []
+        self._named: List[Tuple[Optional[int], str]] = []
         images = list(loads)
         for file in images:
-            self._name(file, "")
+            self._name(file.unit, file.name, "")
         for file in saves:
-            self._name(file, "")
-            self._name(file, BESIDE)
+            self._name_both(file.unit, file.name)
+        if text is not None:
+            self._name_both(None, text)
         for name in (script, *STREAMS):
             if name is not None:
                 self._note(name, None)
         for file in images:
             self._note(file.name, file.unit)
 
-    def _name(self, file: UnitFile, ending: str) -> None:
+    def _name_both(self, unit: Optional[int], name: str) -> None:
+        """Notes a file that is written, and the new one beside it."""
+        self._name(unit, name, "")
+        self._name(unit, name, BESIDE)
+
+    def _name(self, unit: Optional[int], name: str, ending: str) -> None:
         """Notes a file of a unit, with this after its name, unless it is noted for another unit."""
-        with refusals_of(file.name):
-            target = target_of(file.name) + ending
-        if any(other == target and unit != file.unit for unit, other in self._named):
-            raise Unwritten(file.name, OF_TWO_UNITS)
-        self._named.append((file.unit, target))
+        with refusals_of(name):
+            target = target_of(name) + ending
+        if any(other == target and of != unit for of, other in self._named):
+            raise Unwritten(name, TAKEN if unit is None else OF_TWO_UNITS)
+        self._named.append((unit, target))
 
     def _note(self, name: str, unit: Optional[int]) -> None:
         """Notes a file that the call reads or prints to. Nothing replaces what is no regular
@@ -124,12 +134,24 @@ class Targets:
 
         Returns the name of a new file that a killed run left, if one was removed.
         """
+        with held_back():
+            replacement = self.begin(output)
+            replacement.abandon()
+        return replacement.removed
+
+    def begin(self, output: Output) -> Replacement:
+        """A new file beside one that may be written. Its caller holds back signals."""
         with refusals_of(output.name):
             self._judge(output)
-            with held_back():
-                replacement = Replacement(output.name)
-                replacement.abandon()
-        return replacement.removed
+            self._spare_sources(output)
+            return Replacement(output.name)
+
+    def _spare_sources(self, output: Output) -> None:
+        """Raises Refused if the call reads or prints to a file with the name of the new one."""
+        with contextlib.suppress(FileNotFoundError):
+            beside = identity_of(os.stat(target_of(output.name) + BESIDE))
+            if any(identity_of(it.found) == beside for it in self._sources):
+                raise Refused(TAKEN)
 
     def write(self, output: Output, parts: Iterable[bytes]) -> Optional[str]:
         """Replaces a file by one of these bytes, or makes it, if that may still be done. Returns as
@@ -138,21 +160,22 @@ class Targets:
             replacement = Replacement(output.name)
             try:
                 replacement.fill(parts)
-                self._confirm(output, replacement.target)
+                self.confirm(output, replacement)
                 replacement.finish()
             except BaseException:
                 replacement.abandon()
                 raise
         return replacement.removed
 
-    def _confirm(self, output: Output, before: str) -> None:
-        """Raises Refused unless a new file may still replace its target, which is the same as
+    def confirm(self, output: Output, replacement: Replacement) -> None:
+        """Tests after a run that a new file may still replace its target, which is the same as
         before."""
-        self._judge(output)
-        target = target_of(output.name)
-        named = [other for unit, other in self._named if unit == output.unit]
-        if target != before or (named and target not in named):
-            raise Refused(MOVED)
+        with refusals_of(output.name):
+            self._judge(output)
+            target = target_of(output.name)
+            named = [other for unit, other in self._named if unit == output.unit]
+            if target != replacement.target or (named and target not in named):
+                raise Refused(MOVED)
 
     def _judge(self, output: Output) -> None:
         """Raises Refused unless a file may be written, which may be there or not."""
@@ -165,11 +188,12 @@ class Targets:
             return
         if not old.st_mode & 0o222 or _is_closed(output.name):
             raise Refused(READ_ONLY)
-        if is_own or old.st_size == 0:
+        content = output.content
+        if old.st_size == 0 or content is None:
             return
         held = held_by(output.name)
-        if held not in output.content.replaces:
-            what = f"it holds {held.value}, which {output.content.text}"
+        if held not in content.replaces and not (is_own and held not in PACKED):
+            what = f"it holds {held.value}, which {content.text}"
             raise Refused(f"{what} replaces only with --force")
 
     def _is_own(self, old: os.stat_result, unit: Optional[int]) -> bool:

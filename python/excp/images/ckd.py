@@ -5,9 +5,10 @@ from __future__ import annotations
 
 import struct
 from dataclasses import dataclass
-from typing import BinaryIO, Iterator, NamedTuple, Optional
+from typing import BinaryIO, Iterable, Iterator, NamedTuple, Optional
 
 from ..script.limits import LEAST_TRACK_BYTES, MOST_TRACK_BYTES, MOST_TRACKS
+from ..script.reading import count_of
 from .faults import DiskRule, ImageFault
 from .media import Disk, Geometry, Record, Track, track_id
 
@@ -177,6 +178,13 @@ def model_of(heads: int, track_bytes: int) -> Optional[str]:
     )
 
 
+def on_no_model(heads: int, track_bytes: int) -> str:
+    """The sentence for a disk that is of no model."""
+    models = " ".join(f"{name} ({it.heads}, {it.track_bytes})" for name, it in MODELS.items())
+    numbers = f"{count_of(heads, 'head')} and {track_bytes} bytes a track"
+    return f"no model of a disk has {numbers}; the models are {models}"
+
+
 def new_header(size: Geometry, model: str) -> bytes:
     """The header of a new image of a disk of this model."""
     sizes = SIZES.pack(size.heads, size.track_bytes + BESIDE_RECORDS)
@@ -186,9 +194,14 @@ def new_header(size: Geometry, model: str) -> bytes:
 def ckd_image(disk: Disk, model: str) -> Iterator[bytes]:
     """The header and the tracks of the image of a disk of this model."""
     yield new_header(disk.size, model)
-    for number, records in enumerate(disk.tracks):
-        home = b"\0" + track_id(number, disk.size.heads)
+    yield from images_of_tracks(disk.tracks, disk.size.heads, disk.size.track_bytes)
+
+
+def images_of_tracks(tracks: Iterable[Track], heads: int, track_bytes: int) -> Iterator[bytes]:
+    """The tracks of a disk as a plain image has them."""
+    for number, records in enumerate(tracks):
+        home = b"\0" + track_id(number, heads)
         body = b"".join(
             COUNT.pack(it.id, len(it.key), len(it.data)) + it.key + it.data for it in records
         )
-        yield (home + body + END_MARK).ljust(disk.size.track_bytes + BESIDE_RECORDS, b"\0")
+        yield (home + body + END_MARK).ljust(track_bytes + BESIDE_RECORDS, b"\0")

@@ -1,10 +1,13 @@
-"""What a file is that is no image, by its first bytes, and which bytes may be none of an image."""
+"""What a file is by its first bytes: an image, or something else; and which bytes may be none of an
+image."""
 
 from __future__ import annotations
 
 from typing import NamedTuple, Optional
 
-from .ckd import HEADER, HEADS, SIZES
+from .aws import FIRST, HEADER as CHUNK_HEADER, MARK, PACKING_BITS, WHOLE
+from .cckd import EYE_CATCHER as PACKED_DISK
+from .ckd import EYE_CATCHER as PLAIN_DISK, HEADER, HEADS, SIZES
 from .faults import DiskRule, ImageFault, TapeRule
 
 # The first bytes of a file that are looked at. Those of an FBA disk have its label.
@@ -46,10 +49,34 @@ KINDS = (
     ),
 )
 
+# The formats of disks that are read, by what begins an image.
+_DISKS = {
+    PLAIN_DISK: "an image of a disk (CKD_P370)",
+    PACKED_DISK: "a compressed image of a disk (CKD_C370)",
+}
+
 # Rules of a header that bytes after an image may break.
 _MAY_TRAIL = {TapeRule.FLAGS, TapeRule.SPARE, TapeRule.PREVIOUS, TapeRule.BLOCK_OPEN}
 
 _CONTROLS_OF_TEXT = b"\t\n\r\f"
+
+
+def image_kind(head: bytes) -> Optional[str]:
+    """What a file with these first bytes is, if it is an image of a tape or a disk. No script has
+    such bytes."""
+    for begins, what in _DISKS.items():
+        if head.startswith(begins):
+            return what
+    if any(head.startswith(kind.begins, kind.place) for kind in KINDS):
+        return "an image of a disk"
+    if len(head) < CHUNK_HEADER.size:
+        return None
+    length, previous, flags, spare = CHUNK_HEADER.unpack_from(head)
+    # the first chunk has none before it, and begins a block or is a tape mark
+    begins_block = length and flags & ~PACKING_BITS in (FIRST, WHOLE)
+    if previous or spare or not (begins_block or (flags, length) == (MARK, 0)):
+        return None
+    return f"a{' compressed' if flags & PACKING_BITS else 'n'} image of a tape"
 
 
 def is_characters(data: bytes) -> bool:

@@ -67,7 +67,6 @@ class Tape:
 
 
 Medium = Union[Disk, Tape]
-MediumSize = Union[Geometry, TapeSize]
 
 
 def item_bytes(item: TapeItem) -> int:

@@ -41,7 +41,7 @@ class CountedFile(io.FileIO):
         self._bytes += count
         if self._is_told and self._bytes // STEP != self._steps:
             self._steps = self._bytes // STEP
-            self._tell(f"\rexcp_job: {self._title}: {self._bytes >> 20} MiB {self._done}")
+            self._tell(f"\rexcp: {self._title}: {self._bytes >> 20} MiB {self._done}")
         return count
 
     @staticmethod

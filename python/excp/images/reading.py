@@ -15,7 +15,7 @@ from .cckd import PackedDisk
 from .ckd import PlainDisk, Sizes, read_header
 from .faults import DiskRule, ImageFault, TapeRule
 from .kinds import HEAD, why_no_image
-from .media import Disk, Geometry, Medium, MediumSize, Tape, TapeItem, TapeSize, Track, item_bytes
+from .media import Disk, Geometry, Medium, Tape, TapeItem, TapeSize, Track, item_bytes
 from .progress import reader
 
 
@@ -123,12 +123,6 @@ def read_image(name: str, most: Optional[int] = None) -> Medium:
     """
     with opened_image(name) as file:
         return _read_disk(disk_image(file), most) if is_disk(file) else _read_tape(file, most)
-
-
-def image_size(name: str) -> MediumSize:
-    """The size of the medium of an image, all of which is judged and nothing kept. Raises
-    Unreadable as `read_image`."""
-    return read_image(name, most=0).size
 
 
 def _read_disk(image: DiskImage, most: Optional[int]) -> Disk:

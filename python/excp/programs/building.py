@@ -28,6 +28,7 @@ def build(home: Home, *words: str) -> None:
         raise NotBuilt("an installed excp has no sources to build")
     if shutil.which("rt") is None:
         raise NotBuilt("rt, the command of the Rattle kit, is not on the path")
-    status = ended([sys.executable, str(home.top / "tools" / "prove.py"), *words], subprocess.DEVNULL)
+    prove = str(home.top / "tools" / "prove.py")
+    status = ended([sys.executable, prove, *words], subprocess.DEVNULL)
     if status:
         raise NotBuilt(status=status)

@@ -1,5 +1,5 @@
-"""Programs that end with this process: it hands on a signal that ends it, and they get SIGTERM if it
-is killed."""
+"""Programs that end with this process: it hands on a signal that ends it, and they get SIGTERM if
+it is killed."""
 
 from __future__ import annotations
 
@@ -7,10 +7,9 @@ import ctypes
 import os
 import signal
 import subprocess
-from typing import IO, AbstractSet, Optional, Sequence, Union
+from typing import IO, AbstractSet, Callable, Optional, Sequence, Union
 
-# Ctrl-C, the end of a terminal, and the usual request to end.
-ENDING = (signal.SIGINT, signal.SIGHUP, signal.SIGTERM)
+from ..files.signals import ending
 
 # Of prctl: the signal that a process gets when its parent ends.
 _PR_SET_PDEATHSIG = 1
@@ -18,29 +17,59 @@ _PR_SET_PDEATHSIG = 1
 File = Union[int, IO[bytes], None]
 
 
-def ended(words: Sequence[str], stdin: File = None, stderr: File = None) -> int:
+def ended(
+    words: Sequence[str],
+    stdin: File = None,
+    stderr: File = None,
+    *,
+    files: Sequence[int] = (),
+    mask: Optional[AbstractSet[int]] = None,
+    begun: Callable[[], None] = lambda: None,
+) -> int:
     """The exit status of a program, once it has ended. After a signal that ends this process, ends
-    the program, and then this process by that signal."""
-    # one that is ignored, as by nohup, ends nothing
-    awaited = {it for it in ENDING if signal.getsignal(it) is not signal.SIG_IGN}
+    the program, and then this process by that signal.
+
+    The program has these open files, and this mask of signals, by default that of its caller. When
+    it has begun, `begun` is called.
+    """
+    awaited = ending()
+    # one whose parent ignores it would not be sent
+    signal.signal(signal.SIGCHLD, signal.SIG_DFL)
     before = signal.pthread_sigmask(signal.SIG_BLOCK, {*awaited, signal.SIGCHLD})
-    parent = os.getpid()
     try:
-        child = subprocess.Popen(
-            words, stdin=stdin, stderr=stderr, preexec_fn=lambda: _begin(parent, before)
-        )
+        child = _started(words, stdin, stderr, files, before if mask is None else mask)
+        begun()
         asked = _end_of(child, awaited)
     finally:
         signal.pthread_sigmask(signal.SIG_SETMASK, before)
     if asked is not None:
         signal.signal(asked, signal.SIG_DFL)
-        os.kill(parent, asked)
+        os.kill(os.getpid(), asked)
     return child.returncode if child.returncode >= 0 else 128 - child.returncode
 
 
+def _started(
+    words: Sequence[str],
+    stdin: File,
+    stderr: File,
+    files: Sequence[int],
+    mask: AbstractSet[int],
+) -> subprocess.Popen[bytes]:
+    parent = os.getpid()
+    # a reader that is gone, or a file that gets too large, is an error for it and no signal
+    return subprocess.Popen(
+        words,
+        stdin=stdin,
+        stderr=stderr,
+        pass_fds=files,
+        restore_signals=False,
+        preexec_fn=lambda: _begin(parent, mask),
+    )
+
+
 def _end_of(child: subprocess.Popen[bytes], awaited: AbstractSet[int]) -> Optional[int]:
-    """Waits until a program ends. Returns the signal that has ended it before, if one has. All these
-    signals are blocked, so that none comes between two steps."""
+    """Waits until a program ends. Returns the signal that has ended it before, if one has. All
+    these signals are blocked, so that none comes between two steps."""
     asked = None
     while child.poll() is None:
         number = signal.sigwait({*awaited, signal.SIGCHLD})

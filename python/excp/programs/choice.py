@@ -10,27 +10,35 @@ from typing import Optional
 
 from .building import NotBuilt, build
 from .home import Home
-from .proof import newer_source, record_of, why_not
+from .proof import PROOF, UNPROVED, newer_source, record_of, why_not
 from .telling import note
 
 NEWER = (
     "{} is newer than the proved program, which runs: ./excp --build proves it anew, "
     "./excp --try runs the sources as they are"
 )
-UNPROVED = "{}: builds it unproved; ./excp --build proves it, in half an hour to an hour"
+BUILDS = "{}: builds it unproved; ./excp --build proves it, in half an hour to an hour"
 
 
 class Mode(enum.Enum):
-    """What the first word asks for: the best build there is, the proved one alone, or the sources as
-    they are."""
+    """What the first word asks for: the best build there is, the proved one alone, or the sources
+    as they are."""
 
     ANY = ""
     PROVED = "--proved"
     TRIED = "--try"
 
 
+# What to do if no program is installed beside the package, as pip installs it.
+_MISSING = (
+    "no {} is installed with this command: ./excp --install PREFIX of the repository installs both"
+)
+
+
 def choose(home: Home, program: str, mode: Mode) -> Path:
     """The file of the build of a program that runs. Raises NotBuilt."""
+    if home.top is None and not home.is_installed(program):
+        raise NotBuilt(_MISSING.format(program))
     if mode is Mode.TRIED:
         note("runs the unproved build")
         return _unproved(home, program, "try", None)
@@ -38,15 +46,22 @@ def choose(home: Home, program: str, mode: Mode) -> Path:
     if why is None:
         if mode is Mode.ANY:
             _note_newer(home, program)
-        return home.proved / program
+        return home.programs / program
     if mode is Mode.PROVED:
-        raise NotBuilt(f"{why}: ./excp --build proves it")
-    return _unproved(home, program, "quick", UNPROVED.format(why))
+        raise NotBuilt(why if home.top is None else f"{why}: ./excp --build proves it")
+    if home.top is None and record_of(home, program, UNPROVED):
+        return home.programs / program
+    return unproved(home, program, why)
+
+
+def unproved(home: Home, program: str, why: str) -> Path:
+    """The quick build of a program, which is not proved for this reason. Raises NotBuilt."""
+    return _unproved(home, program, "quick", BUILDS.format(why))
 
 
 def _note_newer(home: Home, program: str) -> None:
     record = record_of(home, program)
-    source = newer_source(home, home.proved / f"{program}.proof", record.get("crates", ""))
+    source = newer_source(home, home.programs / f"{program}{PROOF}", record.get("crates", ""))
     if source is not None:
         note(NEWER.format(source))
 

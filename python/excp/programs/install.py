@@ -1,4 +1,4 @@
-"""`--install PREFIX`: copies the command, the proved programs, the manual page and the samples."""
+"""`--install PREFIX`: copies the command, its programs, the manual page and the samples."""
 
 from __future__ import annotations
 
@@ -6,25 +6,29 @@ import os
 import shutil
 import stat
 from pathlib import Path
+from typing import Dict
 
 from .building import NotBuilt
+from .choice import unproved
 from .home import PROGRAMS, Home
-from .proof import why_not
+from .proof import PROOF, UNPROVED, why_not
 from .telling import note
+from .version import unproved_record
 
 
-def install(home: Home, prefix: Path) -> None:
-    """Copies what an installed command needs into PREFIX. Raises NotBuilt, and OSError."""
+def install(home: Home, prefix: Path, takes_unproved: bool = False) -> None:
+    """Copies what an installed command needs into PREFIX. A program that is not proved is installed
+    only if that is asked for, and is built if need be. Raises NotBuilt, and OSError."""
     if home.top is None:
         raise NotBuilt("run --install of the repository, not of an installed excp")
-    for program in PROGRAMS:
-        why = why_not(home, program, by_sums=True)
-        if why is not None:
-            raise NotBuilt(f"{why}: nothing is installed; ./excp --build proves it")
+    programs = {it: _program(home, it, takes_unproved) for it in PROGRAMS}
     places = {it: prefix / it for it in ("bin", "lib/excp", "share/man/man1", "share/excp/samples")}
     for place in places.values():
         place.mkdir(parents=True, exist_ok=True)
-    _install_programs(home, places["bin"], places["lib/excp"])
+    for program, file in programs.items():
+        record = {} if file.parent == home.programs else unproved_record(home.top)
+        _install_program(program, file, places["lib/excp"], record)
+        _link(f"../lib/excp/{program}", places["bin"] / program)
     _install_package(home.top, places["bin"], places["lib/excp"])
     _copy(home.top / "docs/excp_job.1", places["share/man/man1"])
     _link("excp_job.1", places["share/man/man1"] / "excp.1")
@@ -34,13 +38,29 @@ def install(home: Home, prefix: Path) -> None:
     note(f"installed in {prefix}")
 
 
-def _install_programs(home: Home, commands: Path, own: Path) -> None:
-    for program in PROGRAMS:
-        # the time of its last change is in the record of its proof
-        shutil.copy2(home.proved / program, own)
-        _link(f"../lib/excp/{program}", commands / program)
-    for file in (*home.proved.glob("*.proof"), *home.help.glob("*.txt")):
-        _copy(file, own)
+def _program(home: Home, program: str, takes_unproved: bool) -> Path:
+    """The file of a program to install."""
+    why = why_not(home, program, by_sums=True)
+    if why is None:
+        return home.programs / program
+    if takes_unproved:
+        return unproved(home, program, why)
+    instead = "./excp --build proves it, --install PREFIX --unproved installs it as it is"
+    raise NotBuilt(f"{why}: nothing is installed; {instead}")
+
+
+def _install_program(program: str, file: Path, own: Path, record: Dict[str, str]) -> None:
+    """Copies a program with the record of its proof; or with this one, which says that it has no
+    proof."""
+    # the time of its last change is in the record of its proof
+    shutil.copy2(file, own)
+    for kind in (PROOF, UNPROVED):
+        (own / f"{program}{kind}").unlink(missing_ok=True)
+    if record:
+        lines = "".join(f"{name} {text}\n" for name, text in record.items())
+        (own / f"{program}{UNPROVED}").write_text(lines, encoding="utf-8")
+    else:
+        _copy(file.with_name(f"{program}{PROOF}"), own)
 
 
 def _install_package(top: Path, commands: Path, own: Path) -> None:

@@ -1,5 +1,6 @@
 """The record of a program's proof, `PROGRAM.proof` beside it: of which sources it was proved, and
-which file it is. `tools/prove.py` writes it."""
+which file it is. `tools/prove.py` writes it. An installed program that is not proved has
+`PROGRAM.unproved` in its place."""
 
 from __future__ import annotations
 
@@ -10,13 +11,15 @@ from typing import Dict, Iterable, Iterator, Optional
 
 from .home import Home
 
+PROOF, UNPROVED = ".proof", ".unproved"
+
 _PARTS = ("src", "specs", "proofs")
 
 
-def record_of(home: Home, program: str) -> Dict[str, str]:
-    """The fields of the record of a program; none if there is no record."""
+def record_of(home: Home, program: str, kind: str = PROOF) -> Dict[str, str]:
+    """The fields of the record of a program; none if there is no record of this kind."""
     try:
-        text = (home.proved / f"{program}.proof").read_text(encoding="utf-8")
+        text = (home.programs / f"{program}{kind}").read_text(encoding="utf-8")
     except (OSError, UnicodeDecodeError):
         return {}
     return dict(line.split(" ", 1) for line in text.splitlines() if " " in line)
@@ -25,7 +28,7 @@ def record_of(home: Home, program: str) -> Dict[str, str]:
 def why_not(home: Home, program: str, by_sums: bool = False) -> Optional[str]:
     """Why a program is not proved, as far as sizes and times tell; or also by sums of the program
     and of the sources as they are. None if it is proved."""
-    record, file = record_of(home, program), home.proved / program
+    record, file = record_of(home, program), home.programs / program
     if not record or not os.access(file, os.X_OK):
         return f"{program} has not been proved"
     if _size_and_time(file) != record.get("file"):

@@ -5,10 +5,10 @@ from __future__ import annotations
 import re
 import subprocess
 from pathlib import Path
-from typing import Iterator
+from typing import Dict, Iterator
 
 from .home import PROGRAMS, Home
-from .proof import record_of, why_not
+from .proof import UNPROVED, record_of, why_not
 from .telling import note
 
 _OF_RECORD = ("commit", "kit", "sha256")
@@ -18,25 +18,33 @@ _VERSION = re.compile(r'^pub const VERSION: &str = "(.*)";$', re.MULTILINE)
 def versions(home: Home) -> Iterator[str]:
     """The lines on all programs. Says of each why it is not proved, if it is not."""
     for program in PROGRAMS:
+        if home.top is None and not home.is_installed(program):
+            yield f"{program} (not installed)"
+            continue
         why = why_not(home, program, by_sums=True)
         if why is None:
-            record = record_of(home, program)
-            yield f"{program} {record.get('version', '')} (proved)"
-            yield from (f"{name} {record[name]}" for name in _OF_RECORD if name in record)
+            yield from _lines(program, record_of(home, program), "proved")
             continue
-        if home.top is None:
-            yield f"{program} (not proved)"
-        else:
-            yield from _unproved(home.top, program)
+        top = home.top
+        record = record_of(home, program, UNPROVED) if top is None else unproved_record(top)
+        yield from _lines(program, record, "not proved")
         note(why)
 
 
-def _unproved(top: Path, program: str) -> Iterator[str]:
+def _lines(program: str, record: Dict[str, str], state: str) -> Iterator[str]:
+    yield " ".join([program, *record.get("version", "").split(), f"({state})"])
+    yield from (f"{name} {record[name]}" for name in _OF_RECORD if name in record)
+
+
+def unproved_record(top: Path) -> Dict[str, str]:
+    """The record of a program that is built of the sources of a repository, and not proved."""
     found = _VERSION.search((top / "crates/run_options/src/lib.rt").read_text(encoding="utf-8"))
-    yield f"{program} {found[1] if found else 'unknown'} (not proved)"
     commit = _printed("git", "-C", str(top), "rev-parse", "--short=12", "HEAD")
-    yield f"commit {commit or 'unknown'}"
-    yield f"kit {_printed('rt', 'version') or 'none'}"
+    return {
+        "version": found[1] if found else "unknown",
+        "commit": commit or "unknown",
+        "kit": _printed("rt", "version") or "none",
+    }
 
 
 def _printed(*words: str) -> str:

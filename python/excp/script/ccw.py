@@ -1,4 +1,4 @@
-"""A CCW as it is in an area (Principles of Operation, chapter 15, "Channel-Command Word")."""
+"""A CCW as it lies in an area (Principles of Operation, chapter 15, "Channel-Command Word")."""
 
 from __future__ import annotations
 
@@ -14,7 +14,7 @@ RESERVED = 0xFF & ~sum(flag.value for flag in Flag)
 
 
 @dataclass(frozen=True)
-class Ccw:
+class PlacedCcw:
     """A CCW of format 0 at an address of its area. `zero` is byte 5."""
 
     at: int
@@ -25,7 +25,7 @@ class Ccw:
     count: int
 
     @classmethod
-    def of(cls, at: int, image: bytes) -> Ccw:
+    def of(cls, at: int, image: bytes) -> PlacedCcw:
         """The CCW at an address that has these 8 bytes."""
         word, flags, zero, count = struct.unpack(">IBBH", image)
         return cls(at, word >> 24, word & 0xFFFFFF, flags, zero, count)

@@ -11,9 +11,9 @@ from ..script.limits import HIGHEST_ADDRESS, MOST_SCRIPT_BYTES
 from ..script.reading import meant_of, on_unprintable
 from .assembled import AreaLayout, Assembled
 from .disk_extents import DeclaredUnit
-from .labels import Labels
+from .labels import Labels, UnknownLabel
 from .line_forms import Units, excp_line, form_of
-from .mistakes import Mistake
+from .mistakes import Located, Mistake
 from .numbers import value_of
 from .open_area import OpenArea
 from .operands import end
@@ -44,8 +44,8 @@ def assemble(job: bytes) -> Assembled:
     """Assembles a job in symbols. Lines without symbols stay as they are."""
     assembly = _Assembly()
     assembly.read(job.decode("latin-1"))
-    if assembly.findings:
-        return Assembled(b"", sorted(assembly.findings, key=lambda it: it.line or 0))
+    if assembly.mistakes:
+        return Assembled(b"", assembly.findings())
     return Assembled("".join(assembly.script).encode("latin-1"), [], assembly.layouts)
 
 
@@ -54,7 +54,7 @@ class _Assembly:
 
     def __init__(self) -> None:
         self.script: list[str] = []
-        self.findings: list[Finding] = []
+        self.mistakes: list[Located] = []
         self.layouts: list[AreaLayout] = []
         # The labels of each area that has ended. Those of a plain area are none.
         self._labels: list[Labels] = []
@@ -84,22 +84,36 @@ class _Assembly:
                 self._read_line(line, "" if is_last else "\n")
         if self._open is not None:
             self._find(FaultName.ORDER, _NO_END, self._open.number.line)
-            self.findings += self._open.end()
+            self.mistakes += self._open.end()
 
     def _read_line(self, text: str, feed: str) -> None:
         if text:
             try:
                 self._put_line(text, Word(self._readable(text), self._line, 1))
             except Mistake as mistake:
-                self.findings.append(mistake.at(self._line))
+                self.mistakes.append(Located(self._line, mistake))
         self._put(feed)
         if self._size > MOST_SCRIPT_BYTES and not self._is_long:
             self._is_long = True
             self._find(FaultName.WORDS, _TOO_LONG, self._line)
 
     def _find(self, name: FaultName, text: str, line: int) -> None:
-        """Adds a finding of a line as a whole."""
-        self.findings.append(Finding(line, text, name))
+        """Adds a mistake of a line as a whole."""
+        self.mistakes.append(Located(line, Mistake(name, text)))
+
+    def findings(self) -> list[Finding]:
+        """What is found, by lines. Of a label that only other areas have, it names the first."""
+        areas: dict[str, int] = {}
+        for number, labels in enumerate(self._labels):
+            for label in labels:
+                areas.setdefault(label, number)
+        found = []
+        for line, mistake in sorted(self.mistakes, key=lambda it: it.line):
+            if isinstance(mistake, UnknownLabel) and mistake.label.text in areas:
+                area = areas[mistake.label.text]
+                mistake = mistake.if_elsewhere(area, self.layouts[area].line)
+            found.append(mistake.at(line))
+        return found
 
     def _put(self, text: str) -> None:
         """Adds to the plain script."""
@@ -121,7 +135,7 @@ class _Assembly:
                 raise mistake
             if not self._has_tab:
                 self._has_tab = True
-                self.findings.append(mistake.at(self._line))
+                self.mistakes.append(Located(self._line, mistake))
         return said.rstrip(BLANKS)
 
     def _put_line(self, text: str, said: Word) -> None:
@@ -234,7 +248,7 @@ class _Assembly:
     def _close(self, area: OpenArea) -> None:
         """Adds the plain line of the open area, with a word for each eight bytes."""
         self._open = None
-        self.findings += area.end()
+        self.mistakes += area.end()
         layout = AreaLayout(area.number.line, area.base, area.setters)
         self._add_area(area.labels, layout, area.base, len(area.image))
         digits = area.image.hex(" ", -8).upper() or "-"

@@ -19,6 +19,9 @@ _MOST_BYTES = 65_535
 # A constant whose text goes on to the end of its line. Apostrophes that come twice are of the text.
 _UNCLOSED = re.compile(r"[0-9]*(X|CA|C)'(([^']|'')*[^'])?")
 
+# One in whose text another constant begins, up to the apostrophe of that.
+_GOES_ON = re.compile(r"[0-9]*(X|CA|C)'[^']*[ \t,][0-9]*(X|CA|C)'")
+
 _CONSTANT = re.compile(r"([0-9]*)(X|CA|C)'(.*)'")
 
 _NO_FILL = (
@@ -75,9 +78,10 @@ def _fill(image: bytearray, pad: Optional[bytes], word: Optional[Word], most: in
 
 
 def _constant(word: Word) -> _Constant:
-    if _UNCLOSED.fullmatch(word.text):
-        raise Mistake(FaultName.NUMBER, _NOT_CLOSED, word)
     found = _CONSTANT.fullmatch(word.text)
+    has_lone = found is None or "'" in found[3].replace("''", "")
+    if _UNCLOSED.fullmatch(word.text) or (has_lone and _GOES_ON.match(word.text)):
+        raise Mistake(FaultName.NUMBER, _NOT_CLOSED, word)
     times = value_of(found[1] or "1", 10) if found else None
     if found is None or times is None or not 1 <= times <= _MOST_BYTES:
         raise Mistake(FaultName.NUMBER, _NO_CONSTANT, word)
@@ -86,7 +90,7 @@ def _constant(word: Word) -> _Constant:
         if not re.fullmatch("([0-9A-Fa-f]{2})+", text):
             raise Mistake(FaultName.NUMBER, _NO_BYTES, word)
         return _Constant(times, bytes.fromhex(text), b"\0")
-    if not text or "'" in text.replace("''", ""):
+    if not text or has_lone:
         raise Mistake(FaultName.NUMBER, _NO_CONSTANT, word)
     code = EBCDIC if kind == "C" else "ascii"
     return _Constant(times, text.replace("''", "'").encode(code), " ".encode(code))

@@ -5,7 +5,7 @@ from __future__ import annotations
 import re
 from dataclasses import dataclass
 from itertools import islice
-from typing import Optional
+from typing import Iterator, Optional
 
 from ..device_commands import FLAGS
 from ..findings import FaultName
@@ -45,6 +45,21 @@ class Label:
     length: Optional[int]
 
 
+class UnknownLabel(Mistake):
+    """A word that is no label of its area, or is one only later."""
+
+    def __init__(self, word: Word, text: str, meant: Optional[str], own: Labels) -> None:
+        super().__init__(FaultName.NAME, text, word, meant)
+        self.label, self._unknown, self._own = word, text, own
+
+    def if_elsewhere(self, area: int, line: int) -> Mistake:
+        """This mistake, once the area that this line opens is known to have the label."""
+        if self.label.text in self._own:
+            return self
+        text = f"{self._unknown}; area {area} (line {line}) has it"
+        return Mistake(FaultName.NAME, text, self.label)
+
+
 class Labels:
     """The labels of an area."""
 
@@ -53,6 +68,9 @@ class Labels:
 
     def __contains__(self, label: str) -> bool:
         return label in self._labels
+
+    def __iter__(self) -> Iterator[str]:
+        return iter(self._labels)
 
     def define(self, word: Word, label: Label) -> None:
         """Defines a label. Raises Mistake if its name is wrong, or is there already."""
@@ -71,7 +89,7 @@ class Labels:
             return self._labels[word.text]
         # one or two characters mean no other label
         first = islice(self._labels, _COMPARED if len(word.text) > 2 else 0)
-        raise Mistake(FaultName.NAME, unknown, word, nearest(word.text, first))
+        raise UnknownLabel(word, unknown, nearest(word.text, first), self)
 
     def address(self, word: Word, here: Optional[int], unknown: str = UNDEFINED) -> int:
         """The value of an expression: a label, L'LABEL, `*` or a number, with +N or -N or without.

@@ -32,6 +32,8 @@ _NO_VALUES = (
 )
 _NO_AT = "expected fault U at N NAME, as fault 0 at 3 data check"
 _NO_FAULT = f"not the name of a fault: expected {listed(DEVICE_FAULTS)}"
+# The first words of these names.
+_FAULT_WORDS = {name.partition(" ")[0] for name in DEVICE_FAULTS}
 _NO_EXCP = "an excp line has 8 words: excp T U DCB IOB A SHOW LEN"
 _NO_AREA = "no area before this line has this number: the first area is 0"
 
@@ -60,7 +62,11 @@ def _open_line(words: Operands, units: Units) -> Iterator[str]:
 
 def _rec_line(words: Operands, _units: Units) -> Iterator[str]:
     """`rec U CC HH R key VALUE data VALUE`"""
-    yield from _copied(words, 4)
+    numbers = [words.take().text for _ in range(4)]
+    if any(it in ("key", "data") or "'" in it for it in numbers):
+        # one is missing
+        raise Mistake(FaultName.WORDS, _NO_VALUES)
+    yield from (f" {it}" for it in numbers)
     key = words.take_all()
     data: Optional[list[Word]] = None
     texts = [it.text for it in key]
@@ -88,6 +94,9 @@ def _fault_line(words: Operands, _units: Units) -> Iterator[str]:
     word = words.take()
     if word.text != "at":
         raise Mistake(FaultName.WORDS, _NO_AT, word)
+    if words.peek().text in _FAULT_WORDS:
+        # the number of the command is missing
+        raise Mistake(FaultName.WORDS, _NO_AT)
     yield from _copied(words, 1)
     left = words.left
     status = DEVICE_FAULTS.get(" ".join(it.text for it in words.take_all()))

@@ -8,7 +8,7 @@ from collections import defaultdict
 from typing import Iterator, NamedTuple, Optional
 
 from ..device_commands import DEVICES, FLAGS, Op, command_of
-from ..script.ccw import RESERVED, Ccw
+from ..script.ccw import RESERVED, PlacedCcw
 from ..script.limits import HIGHEST_ADDRESS
 from .constants import EBCDIC
 from .storage import DATA, ECB, IDAW, IOB, Part, Storage, number_in
@@ -157,7 +157,7 @@ def _iob(storage: Storage, image: bytes) -> Optional[_Statement]:
 
 def _ccw(storage: Storage, device: str, at: int, image: bytes) -> Optional[_Statement]:
     """The statement of a CCW. No word names the two reserved flags, and byte 5 is 0."""
-    ccw = Ccw.of(at, image)
+    ccw = PlacedCcw.of(at, image)
     if ccw.flags & RESERVED or ccw.zero:
         return None
     if ccw.command == Op.TIC and not ccw.flags and not ccw.count:

@@ -2,7 +2,7 @@
 
 from __future__ import annotations
 
-from typing import Optional
+from typing import NamedTuple, Optional
 
 from ..findings import FaultName, Finding
 from ..script.reading import shown
@@ -49,3 +49,10 @@ class Mistake(Exception):
         if self.word is None:
             return Finding(line, self.text, self.name)
         return Finding(line, f"{shown(self.word.text)}: {self.text}", self.name, self.word.column)
+
+
+class Located(NamedTuple):
+    """A mistake, and its line."""
+
+    line: int
+    mistake: Mistake

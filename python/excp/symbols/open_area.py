@@ -4,10 +4,10 @@ from __future__ import annotations
 
 from typing import NamedTuple, Optional
 
-from ..findings import FaultName, Finding
+from ..findings import FaultName
 from ..script.limits import HIGHEST_ADDRESS, MOST_AREA_BYTES
 from .labels import Labels
-from .mistakes import Mistake
+from .mistakes import Located, Mistake
 from .words import Word
 
 _OUTSIDE = (
@@ -85,15 +85,15 @@ class OpenArea:
         self.image += bytes(max(0, place - len(self.image)))
         self._next = place
 
-    def end(self) -> list[Finding]:
+    def end(self) -> list[Located]:
         """Sets the bytes of all references. Returns the mistakes in them."""
-        findings = []
+        mistakes = []
         for reference in self._references:
             try:
                 self._set(reference)
             except Mistake as mistake:
-                findings.append(mistake.at(reference.expression.line))
-        return findings
+                mistakes.append(Located(reference.expression.line, mistake))
+        return mistakes
 
     def _set(self, reference: _Reference) -> None:
         offset, width, here, word = reference

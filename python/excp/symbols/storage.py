@@ -8,7 +8,7 @@ from __future__ import annotations
 from typing import NamedTuple, Optional
 
 from ..device_commands import DISK, Flag, Op
-from ..script.ccw import CCW_BYTES, Ccw
+from ..script.ccw import CCW_BYTES, PlacedCcw
 
 # The bytes of a block, whose address an indirect data address word has.
 _BLOCK = 2048
@@ -93,7 +93,7 @@ class Storage:
             image = self.bytes_at(at, CCW_BYTES)
             if image is None or not self._claim(at, Part("CCW", CCW_BYTES, 8, device)):
                 continue
-            ccw = Ccw.of(at, image)
+            ccw = PlacedCcw.of(at, image)
             self._named.add(ccw.address)
             if ccw.is_transfer:
                 steps.append((ccw.address, searches))
@@ -108,13 +108,13 @@ class Storage:
                 if searches:
                     steps.append((at + 2 * CCW_BYTES, None))
 
-    def _add_data(self, ccw: Ccw) -> None:
+    def _add_data(self, ccw: PlacedCcw) -> None:
         if ccw.has(Flag.IDA):
             self._add_address_words(ccw)
         else:
             self._ends.add(ccw.address + ccw.count)
 
-    def _add_address_words(self, ccw: Ccw) -> None:
+    def _add_address_words(self, ccw: PlacedCcw) -> None:
         """Notes the indirect data address words of a CCW: one for each block that its data
         reach."""
         first = self.bytes_at(ccw.address, IDAW.size)

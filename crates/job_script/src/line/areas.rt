@@ -6,10 +6,10 @@ ghost use Rattle.job_script.specs.Lines.{area_line, open_line, tasks_line};
 ghost use Rattle.job_script.specs.Outcomes.{Returns, words_in};
 
 use super::{AreaLine, SetUpLine, TasksLine};
-use crate::cause::Refusal;
 use crate::forms::{
     address, extents, has, has_least, index, joined_bytes, method_of, number, number_in,
 };
+use crate::refusal::Refusal;
 use crate::set_up::Opening;
 use script_words::Words;
 use std::alloc::Global;

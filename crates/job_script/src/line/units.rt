@@ -6,8 +6,8 @@ ghost use Rattle.job_script.specs.Lines.{block_line, disk_line, fault_line, mark
 ghost use Rattle.job_script.specs.Outcomes.{Returns, words_in};
 
 use super::{SetUpLine, UnitLine};
-use crate::cause::Refusal;
 use crate::forms::{byte, bytes, halfword, has, index, number, small_number, subclass, two_bytes};
+use crate::refusal::Refusal;
 use crate::set_up::Medium;
 use ckd_disk::{Geometry, InitialRecord};
 use device_port::Fault;

@@ -90,8 +90,3 @@ impl Verb {
         None
     }
 }
-
-/// Whether a line of a script may begin with this word.
-pub fn begins_line(word: &[u8]) -> bool {
-    Verb::of(word).is_some()
-}

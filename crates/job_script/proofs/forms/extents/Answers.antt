@@ -1,7 +1,6 @@
-use Rattle.std.proofs.Common.{◌≡◌, refl, sym, ap, Err, Some, None, rules}
+use Rattle.std.proofs.Common.{◌≡◌, refl, Some, None, rules}
 use Rattle.script_words.specs.Text.{words}
 use Rattle.script_words.proofs.Joining.{each_more, each_stops, each_ends}
-use Rattle.job_script.specs.declared.fault.FaultName.{FaultName}
 use Rattle.job_script.specs.Forms.{extent}
 use Rattle.job_script.proofs.forms.extents.Goals as goal
 
@@ -10,7 +9,7 @@ returns-in_default-extent c =
     let one : extent c.in-Some.word.now ≡ None = search rules in
     rw (each_stops extent c.words.extents.items c.in-Some.word.now (words c.words.left.now)
     (words c.in-Some.rest.now) _ c.in-Some.ensures one c.words.invariant)
-    (ap (λ (n : FaultName). Err n) (sym c.wrong_digits.ensures))
+    refl
 
 pub words-preserved : goal.words-preserved
 words-preserved c =

@@ -1,5 +1,4 @@
-use Rattle.std.proofs.Common.{rules, refl, ap, sym, Err}
-use Rattle.job_script.specs.declared.fault.FaultName.{FaultName}
+use Rattle.std.proofs.Common.{rules, refl}
 use Rattle.job_script.specs.Adding.{add_record}
 use Rattle.job_script.specs.Views.{record_said, set_up_said}
 use Rattle.job_script.proofs.Changing.{changes, keeps, unchanged}
@@ -7,9 +6,7 @@ use Rattle.job_script.proofs.set_up.SetUp.add_record.Goals as goal
 
 pub returns-then-place-len-clause-adds : goal.returns-then-place-len-clause-adds
 returns-then-place-len-clause-adds c =
-    rw (unchanged (add_record (record_said c.args.added)) (set_up_said c.args.self.now) c.args.self.now.units.items c.args.place refl
-    (search rules))
-    (ap (λ (n : FaultName). Err n) (sym c.no_unit.ensures))
+    unchanged (add_record (record_said c.args.added)) (set_up_said c.args.self.now) c.args.self.now.units.items c.args.place refl (search rules)
 
 pub returns-clause-adds : goal.returns-clause-adds
 returns-clause-adds c =

@@ -1,6 +1,5 @@
-use Rattle.std.proofs.Common.{rules, ◌≡◌, ◌<◌, ◌≤◌, length, get_or, refl, sym, ap, ◌∙◌, Err}
+use Rattle.std.proofs.Common.{rules, ◌≡◌, ◌<◌, ◌≤◌, length, get_or, refl, sym, ◌∙◌}
 use Rattle.std.proofs.lemmas.Bool.{le-leb, lt-leb}
-use Rattle.job_script.specs.declared.fault.FaultName.{FaultName}
 use Rattle.job_script.specs.Views.{set_up_said}
 use Rattle.job_script.proofs.Changing.{dcb_past, dcb_at}
 use Rattle.job_script.proofs.set_up.SetUp.names_dcb.Goals as goal
@@ -9,7 +8,6 @@ pub returns-then-unit-len-clause-read : goal.returns-then-unit-len-clause-read
 returns-then-unit-len-clause-read c =
     let past : length c.args.self.now.units.items ≤ c.args.dcb.unit = search rules in
     dcb_past c.args.dcb (set_up_said c.args.self.now) c.args.self.now.units.items refl past
-    ∙ ap (λ (n : FaultName). Err n) (sym c.no_unit.ensures)
 
 pub returns-then-from-len-clause-read : goal.returns-then-from-len-clause-read
 returns-then-from-len-clause-read c =
@@ -18,7 +16,7 @@ returns-then-from-len-clause-read c =
     let is : unit ≡ get_or c.args.self.now.units.items c.args.dcb.unit unit = rw (sym c.from-unit.ensures) c.index-declared.ensures in
     let few : length unit.openings.items < c.args.dcb.number = search rules in
     dcb_at c.args.dcb (set_up_said c.args.self.now) c.args.self.now.units.items unit refl within is
-    ∙ rw (lt-leb c.args.dcb.number (length unit.openings.items) few) (ap (λ (n : FaultName). Err n) (sym c.no_dcb.ensures))
+    ∙ rw (lt-leb c.args.dcb.number (length unit.openings.items) few) refl
 
 pub returns-clause-read : goal.returns-clause-read
 returns-clause-read c =

@@ -6,8 +6,8 @@ use Rattle.job_step.proofs.plan.Plan.books.Goals as goal
 pub loop-number-preserved : goal.loop-number-preserved
 loop-number-preserved c =
     let books = c.loop-number.books.items in
-    let fresh : IsFresh c.in-Some.book = search rules in
+    let fresh : IsFresh c.in_ok-book.book = search rules in
     record {
-      count = omega (arith, c.in_ok-push-in-Some.ensures.len, c.loop-number.invariant.count);
-      fresh = rw c.in_ok-push-in-Some.ensures.items (All-push IsFresh books c.in-Some.book c.loop-number.invariant.fresh fresh);
+      count = omega (arith, c.in_ok-push.ensures.len, c.loop-number.invariant.count);
+      fresh = rw c.in_ok-push.ensures.items (All-push IsFresh books c.in_ok-book.book c.loop-number.invariant.fresh fresh);
     }

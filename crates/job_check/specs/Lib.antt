@@ -1,2 +1,0 @@
--- Why findings are not printed.
-pub mod Printing

@@ -1,0 +1,57 @@
+"""The calls of a site of the library, which a lock lets in one at a time."""
+
+from __future__ import annotations
+
+import ctypes
+import threading
+import weakref
+from typing import Any
+
+from . import library
+from .library import Handle, call
+from .values import Answer, Kind, Name
+
+
+class Calls:
+    """The calls of one site, which is made here, and freed once nothing uses it."""
+
+    def __init__(self, tasks: int, post_room: int) -> None:
+        self._handle, self.lock = Handle(), threading.RLock()
+        call("site_new", self._handle, tasks, post_room)
+        self._freed = weakref.finalize(self, _free, self._handle)
+
+    def free(self) -> None:
+        """Frees the site. Later calls raise `NoSite`."""
+        with self.lock:
+            self._freed()
+
+    def call(self, name: str, *values: Any) -> None:
+        with self.lock:
+            call(name, self._handle, *values)
+
+    def event(self, name: str, unit: int, *values: Any) -> Answer:
+        """What an event of a unit did."""
+        answer = library.Answer()
+        self.call(name, unit, *values, answer)
+        kind = Kind(answer.kind)
+        named = Name(answer.task, unit, answer.number) if kind.names_request else None
+        return Answer(kind, named, answer.commands, answer.code)
+
+    def made(self) -> bytes:
+        """The bytes that the site made last."""
+        length = ctypes.c_size_t()
+        self.call("made_length", length)
+        made = ctypes.create_string_buffer(length.value)
+        self.call("copy_out", 0, made)
+        return made.raw
+
+    def make(self, name: str, unit: int) -> bytes:
+        """The bytes that a call makes of a unit."""
+        with self.lock:
+            self.call(name, unit, ctypes.c_size_t())
+            return self.made()
+
+
+def _free(handle: Handle) -> None:
+    if handle.at:
+        call("site_free", handle)

@@ -1,0 +1,168 @@
+"""Runs excp_tools on a script, and says what it leaves to be said.
+
+The files of media are open here: the program loads an image, and fills a new file, by the number of
+its descriptor. The new files take the places of their targets after a good end.
+"""
+
+from __future__ import annotations
+
+import contextlib
+import os
+import tempfile
+from dataclasses import replace
+from enum import IntEnum
+from typing import AbstractSet, Iterator, List, NoReturn, Tuple
+
+from ..files.folder import ScenarioFolder
+from ..files.new_files import NewFiles
+from ..files.refusals import Unwritten
+from ..files.signals import end_if_asked, held_back
+from ..files.targets import TEXT, Output, Targets
+from ..images.measured import measured
+from ..images.reading import Unreadable
+from ..images.unpacking import plain_file
+from ..programs.children import ended
+from .handing import handed, name_in_texts
+from .streams import (
+    ERRORS, FAILED, REJECTED, Ended, name_of, of_file, print_findings, say_removed,
+)
+from .tools import Order, Source
+from .unit_files import load_images
+from .units import check_fit
+
+PROGRAM = "excp_tools"
+
+
+class Status(IntEnum):
+    """How the program ends if the package has more to say, or to do."""
+
+    # a line, a medium, a DCB or a request of the script is refused
+    REFUSED = 7
+    # an image cannot be loaded
+    NO_IMAGE = 8
+    # a unit of a file is not declared, or no model of disks is as one
+    UNFIT = 9
+    # an expectation of a scenario is not met; all else is done
+    UNMET = 10
+    # nothing reads the output any more
+    READER_GONE = 11
+
+
+# The ends of `outcomes` after a search, and all ends after which the new files are whole.
+_SEARCHED = (0, 5, 6)
+_GOOD = (*_SEARCHED, Status.UNMET)
+
+
+def carry_out(order: Order, source: Source) -> int:
+    """Runs the program on a script. Returns the exit status. Raises Ended, and NotBuilt."""
+    try:
+        with contextlib.ExitStack() as stack:
+            status = _Run(order, source, stack).status()
+        return _said(order, source, status)
+    except (Unreadable, Unwritten) as error:
+        raise of_file(error.name, error.sentence) from None
+    except OSError as error:
+        raise Ended(f"{PROGRAM} cannot be run: {error.strerror}") from None
+
+
+class _Run:
+    """A run of the program: its words so far, and the numbers of the files that it is handed."""
+
+    def __init__(self, order: Order, source: Source, stack: contextlib.ExitStack) -> None:
+        self._order, self._source, self._stack = order, source, stack
+        self._words: List[str] = list(order.words)
+        self._files: List[int] = []
+
+    def status(self) -> int:
+        """Runs the program, and returns its exit status."""
+        order, targets = self._order, self._order.targets()
+        for unit, name in order.loads.items():
+            image = self._stack.enter_context(plain_file(name))
+            self._hand(f"load={unit}", image.fileno(), name)
+        self._words.insert(0, str(order.program_of(PROGRAM)))
+        with held_back() as mask:
+            if order.folder is not None:
+                return self._into_folder(order.folder, targets, mask)
+            return self._ended(targets, mask)
+
+    def _hand(self, word: str, descriptor: int, name: str) -> None:
+        """Hands an open file to the program, with its name in texts."""
+        number = handed(descriptor)
+        self._stack.callback(os.close, number)
+        self._files.append(number)
+        self._words.append(f"{word}={number}={name_in_texts(name)}")
+
+    def _into_folder(self, name: str, targets: Targets, mask: AbstractSet[int]) -> int:
+        """A run whose scenarios go into a folder, once all are found."""
+        folder = ScenarioFolder(name, targets)
+        try:
+            for removed in folder.prepare():
+                say_removed(*removed)
+            scenarios = self._stack.enter_context(tempfile.TemporaryFile())
+            self._hand("scenarios", scenarios.fileno(), name)
+            status = self._ended(targets, mask)
+            if status in _SEARCHED:
+                scenarios.seek(0)
+                for removed in folder.write_all(scenarios):
+                    say_removed(*removed)
+            return status
+        finally:
+            folder.remove_new()
+
+    def _ended(self, targets: Targets, mask: AbstractSet[int]) -> int:
+        """A run whose new files take their places after a good end."""
+        new = NewFiles(targets)
+        try:
+            for word, output in self._outputs():
+                replacement = new.begin(output)
+                say_removed(output.name, replacement.removed)
+                self._hand(word, replacement.descriptor, output.name)
+            with self._source.opened() as given:
+                begun = self._source.begun
+                status = ended(self._words, given, files=self._files, mask=mask, begun=begun)
+            end_if_asked()
+            self._source.ended()
+            if status in _GOOD:
+                new.finish(self._known)
+            return status
+        finally:
+            new.abandon()
+
+    def _outputs(self) -> Iterator[Tuple[str, Output]]:
+        """The files that the program fills, each with the word that hands it over."""
+        if self._order.schedule is not None:
+            yield "schedule", Output(self._order.schedule, TEXT)
+        for unit, name in self._order.saves.items():
+            yield f"save={unit}", self._known(Output(name, None, unit))
+
+    def _known(self, output: Output) -> Output:
+        """An output with what is saved, if the lines so far declare its unit. A dialog shows them
+        as it goes on; of a unit that none declares the program ends."""
+        units = self._source.units() or ()
+        if output.content is not None or output.unit is None or output.unit >= len(units):
+            return output
+        return replace(output, content=units[output.unit].content)
+
+
+def _said(order: Order, source: Source, status: int) -> int:
+    """Says what the program has left to be said. Returns the exit status of the command."""
+    if status == Status.REFUSED:
+        findings = source.findings(load_images(name_of(order.script), order.loads))
+        if not any(finding.is_fault for finding in findings):
+            _disagree("the program rejects this script, and `check` finds no fault")
+        print_findings(findings, source.file, ERRORS)
+        return REJECTED
+    if status == Status.NO_IMAGE:
+        for name in order.loads.values():
+            measured(name)
+        _disagree("the program loads an image not, in which `describe` finds no fault")
+    if status == Status.UNFIT:
+        check_fit(source.units() or (), order.loads, order.saves)
+        _disagree("the program finds a file for no unit")
+    if status == Status.READER_GONE:
+        return 0
+    return REJECTED if status == Status.UNMET else status
+
+
+def _disagree(what: str) -> NoReturn:
+    raise Ended(f"error of this program: {what}; please report it with the script", FAILED)

@@ -1,0 +1,68 @@
+"""The units that a script declares, as far as files of their media need that."""
+
+from __future__ import annotations
+
+from typing import List, Mapping, NamedTuple, Optional, Sequence
+
+from ..device_commands import DISK, PRINTER, TAPE
+from ..files import targets
+from ..files.refusals import Unwritten
+from ..findings import printable_name
+from ..images.ckd import model_of, on_no_model
+from ..script.grammar import COMMAND_WORDS, EVENT_WORDS, Disk
+from ..script.reading import Refused, Text, lines_of, read_script_line
+from .streams import Ended
+
+# The first words of lines after which a scenario declares nothing.
+_EVENTS = {*COMMAND_WORDS, *EVENT_WORDS} - {"room"}
+
+_CONTENTS = {DISK: targets.DISK, TAPE: targets.TAPE, PRINTER: targets.TEXT}
+
+
+class DeclaredUnit(NamedTuple):
+    """A unit: the kind of its device, and its line if that has the size of a disk."""
+
+    kind: str
+    disk: Optional[Disk]
+
+    @property
+    def content(self) -> targets.Content:
+        """What is saved of it."""
+        return _CONTENTS[self.kind]
+
+
+def units_of(script: bytes) -> Sequence[DeclaredUnit]:
+    """The units of a plain script or scenario, by their numbers. Whether a line is at fault, the
+    program says."""
+    units: List[DeclaredUnit] = []
+    for number, line in enumerate(lines_of(script), 1):
+        text = Text(line)
+        if text.first in _EVENTS:
+            break
+        if text.first in _CONTENTS:
+            units.append(DeclaredUnit(text.first, _disk_of(number, text)))
+    return units
+
+
+def _disk_of(number: int, text: Text) -> Optional[Disk]:
+    """The line of a disk, unless it leaves its size to an image."""
+    try:
+        line = read_script_line(number, text)
+    except Refused:
+        return None
+    return line if isinstance(line, Disk) else None
+
+
+def check_fit(
+    units: Sequence[DeclaredUnit], loads: Mapping[int, str], saves: Mapping[int, str]
+) -> None:
+    """Raises Ended if a unit of a file is not declared, and Unwritten if a disk that is to be saved
+    has no model, which one from an image needs not."""
+    for unit, name in (*loads.items(), *saves.items()):
+        if unit >= len(units):
+            raise Ended(f"{unit}={printable_name(name)}: no line declares unit {unit}")
+    for unit, name in saves.items():
+        disk = units[unit].disk
+        if disk is not None and unit not in loads:
+            if model_of(disk.heads, disk.track_bytes) is None:
+                raise Unwritten(name, on_no_model(disk.heads, disk.track_bytes))

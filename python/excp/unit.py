@@ -1,0 +1,191 @@
+"""A unit of a site and its DCBs, and what their events answer (docs/CLIENT.md, "From Python")."""
+
+from __future__ import annotations
+
+import ctypes
+import itertools
+from typing import TYPE_CHECKING, Any, Iterator, List, Sequence, Tuple
+
+from . import library
+from .blocks import Extent
+from .errors import ExcpError, Status
+from .values import (
+    Active, Answer, DcbPhase, DcbState, Device, Line, Method, Mode, Name, Record, Served, ServedEnd,
+    UnitState,
+)
+
+if TYPE_CHECKING:
+    from .site import Site
+
+# The most commands that `run` and `serve` do, unless said otherwise.
+MOST_COMMANDS = 2**32 - 1
+
+
+class Unit:
+    """A unit of a site: its device, its DCBs and its events."""
+
+    def __init__(self, site: Site, number: int) -> None:
+        self.site, self.number = site, number
+        self._calls = site.calls
+
+    def __repr__(self) -> str:
+        return f"<unit {self.number}>"
+
+    def open(self, method: Method = Method.OUTPUT, extents: Sequence[Extent] = ()) -> Dcb:
+        """Opens the next DCB of the unit. A disk has 1 to 16 extents, a tape and a printer none."""
+        return self.open_images(method, [it.to_bytes() for it in extents])
+
+    def open_images(self, method: Method, images: Sequence[bytes]) -> Dcb:
+        """As `open`, with the 16 bytes of each extent."""
+        dcb = ctypes.c_uint16()
+        self._calls.call("open", self.number, method, b"".join(images), dcb)
+        return Dcb(self, dcb.value)
+
+    def dcb(self, number: int) -> Dcb:
+        """The DCB with this number, whether it was opened or not."""
+        return Dcb(self, number)
+
+    # --- events
+
+    def take(self) -> Answer:
+        """The first request in flight arrives at the unit: TOOK, HELD, QUIET."""
+        return self._calls.event("take", self.number)
+
+    def start(self) -> Answer:
+        """The unit starts what comes next: STARTED, VIOLATED, BUSY, IDLE."""
+        return self._calls.event("start", self.number)
+
+    def run(self, most: int = MOST_COMMANDS) -> Answer:
+        """The active channel program runs for at most `most` commands: RAN, RAN_PENDING, QUIET."""
+        return self._calls.event("run", self.number, most)
+
+    def interrupt(self) -> Answer:
+        """The unit takes the pending status: ENDED, AGAIN, QUIET."""
+        return self._calls.event("interrupt", self.number)
+
+    def deliver(self) -> Answer:
+        """The first posted request goes back to its task: DELIVERED, ROW_FULL, QUIET."""
+        return self._calls.event("deliver", self.number)
+
+    def serve(self, most: int = MOST_COMMANDS) -> Served:
+        """Makes all of these events until nothing is left to do, or `most` commands were done."""
+        served = library.Served()
+        self._calls.call("serve", self.number, most, served)
+        return Served(served.posts, served.commands, ServedEnd(served.ended))
+
+    def settle(self) -> None:
+        """Starts, runs and interrupts until nothing waits or is active."""
+        self._calls.call("settle", self.number)
+
+    def purge_task(self, task: int, mode: Mode = Mode.QUIESCE) -> Answer:
+        """Purges the requests of a task at this unit: ACTIVE, QUIET."""
+        return self._calls.event("purge_task", self.number, task, mode)
+
+    def checkpoint(self) -> None:
+        """Forgets what happened at this idle unit, so that its memory does not grow with each
+        request."""
+        self._calls.call("checkpoint", self.number)
+
+    # --- what there is
+
+    @property
+    def state(self) -> UnitState:
+        found = library.UnitState()
+        with self._calls.lock:
+            self._calls.call("look", self.number, found)
+            waiting = tuple(self._waiting(place) for place in range(found.waiting))
+        active = Name(found.active_task, self.number, found.active_number)
+        return UnitState(
+            device=Device(found.kind),
+            active=active if found.active else None,
+            phase=Active(found.active),
+            waiting=waiting,
+            in_flight=found.in_flight,
+            in_flight_room=found.in_flight_room,
+            out=found.out,
+            has_room=bool(found.has_room),
+            printed=found.printed,
+        )
+
+    def _waiting(self, place: int) -> Name:
+        task, number = ctypes.c_uint16(), ctypes.c_uint64()
+        self._calls.call("waiting", self.number, place, task, number)
+        return Name(task.value, self.number, number.value)
+
+    def records(self, cylinder: int, head: int) -> List[Record]:
+        """The records of a track of a disk, in their order. The first is R0."""
+        found = self._each("read_record", (cylinder, head), library.Record, 255 + 65535)
+        return [
+            Record(
+                it.cylinder,
+                it.head,
+                it.number,
+                bytes(data[it.key_length : it.key_length + it.data_length]),
+                bytes(data[: it.key_length]),
+            )
+            for it, data in found
+        ]
+
+    def printed(self) -> List[Line]:
+        """The lines that a printer printed, the oldest first."""
+        found = self._each("printed_line", (), library.Line, 132)
+        return [Line(it.page, it.line, bytes(data[: it.length])) for it, data in found]
+
+    def _each(
+        self, name: str, where: Tuple[int, ...], kind: Any, most: int
+    ) -> Iterator[Tuple[Any, memoryview]]:
+        """What is at each place, with its bytes, until there is no such place. Both stay as they
+        are until the next one is asked for. The buffer has room for the longest."""
+        found, data = kind(), ctypes.create_string_buffer(most)
+        with self._calls.lock:
+            for place in itertools.count():
+                try:
+                    self._calls.call(name, self.number, *where, place, found, data)
+                except ExcpError as error:
+                    if error.status == Status.NOTHING_THERE:
+                        return
+                    raise
+                yield found, memoryview(data)
+
+    def history(self) -> str:
+        """What happened at the unit since it was mounted, or since its last checkpoint: a line for
+        each entry. Requests have the numbers that they have there, from 1 on."""
+        return self._calls.make("make_history", self.number).decode("ascii")
+
+    def image(self) -> bytes:
+        """The medium as an image: a disk as CKD_P370, a tape as AWSTAPE, the paper of a printer as
+        text in UTF-8 (docs/FORMATS.md). What was not written is as in the image that the unit came
+        from. Raises `NoImage`."""
+        return self._calls.make("make_image", self.number)
+
+
+class Dcb:
+    """A DCB of a unit. As a number it is its own, which an IOB has as its DCB pointer."""
+
+    def __init__(self, unit: Unit, number: int) -> None:
+        self.unit, self.number = unit, number
+        self._calls = unit.site.calls
+
+    def __index__(self) -> int:
+        return self.number
+
+    def __repr__(self) -> str:
+        return f"<DCB {self.number} of unit {self.unit.number}>"
+
+    def purge(self, mode: Mode = Mode.QUIESCE) -> Answer:
+        """Purges the requests of the DCB: ACTIVE, QUIET."""
+        return self._calls.event("purge", self.unit.number, self.number, mode)
+
+    def close(self) -> Answer:
+        """Closes the DCB: CLOSED, CLOSING."""
+        return self._calls.event("close", self.unit.number, self.number)
+
+    def reset(self) -> None:
+        """Clears the error flag of the open DCB."""
+        self._calls.call("reset", self.unit.number, self.number)
+
+    @property
+    def state(self) -> DcbState:
+        found = library.DcbState()
+        self._calls.call("look_dcb", self.unit.number, self.number, found)
+        return DcbState(DcbPhase(found.state), bool(found.in_error), found.file_mask)

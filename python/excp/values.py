@@ -1,0 +1,230 @@
+"""What a site takes and gives: modes, records, names of requests, answers, posts and states."""
+
+from __future__ import annotations
+
+import enum
+from dataclasses import dataclass
+from typing import NamedTuple, Optional, Tuple
+
+from .blocks import Area, Csw, piece_of
+
+
+class Method(enum.IntEnum):
+    """What a DCB is opened for."""
+
+    INPUT = 0
+    OUTPUT = 1
+
+
+class Mode(enum.IntEnum):
+    """What a purge does to an active request."""
+
+    QUIESCE = 0
+    HALT = 1
+
+
+class Device(enum.IntEnum):
+    DISK = 0
+    TAPE = 1
+    PRINTER = 2
+
+
+class Active(enum.IntEnum):
+    """What the active request of a unit does."""
+
+    NONE = 0
+    RUNNING = 1
+    PENDING = 2
+    AWAITS_RESTART = 3
+
+
+class DcbPhase(enum.IntEnum):
+    OPEN = 1
+    CLOSING = 2
+    CLOSED = 3
+
+
+class ServedEnd(enum.IntEnum):
+    """Why `serve` returned: nothing is left, a task has to collect a post first, or the commands
+    were done."""
+
+    ALL = 0
+    ROW_FULL = 1
+    COMMANDS = 2
+
+
+class Kind(enum.IntEnum):
+    """What an event did (excp_answer_kind)."""
+
+    QUIET = 0
+    HELD = 1
+    TOOK = 2
+    BUSY = 3
+    IDLE = 4
+    STARTED = 5
+    VIOLATED = 6
+    RAN = 7
+    RAN_PENDING = 8
+    AGAIN = 9
+    ENDED = 10
+    DELIVERED = 11
+    ROW_FULL = 12
+    ACTIVE = 13
+    CLOSED = 14
+    CLOSING = 15
+
+    @property
+    def word(self) -> str:
+        """The word of a scenario's answer (docs/MANUAL.md)."""
+        return {Kind.RAN_PENDING: "Ran", Kind.ROW_FULL: "Full"}.get(self, self.name.capitalize())
+
+    @property
+    def names_request(self) -> bool:
+        return self in _NAMING
+
+
+_NAMING = {
+    Kind.TOOK, Kind.STARTED, Kind.VIOLATED, Kind.AGAIN, Kind.ENDED, Kind.DELIVERED, Kind.ROW_FULL,
+    Kind.ACTIVE, Kind.CLOSING,
+}
+
+
+class Name(NamedTuple):
+    """The name of a request: the numbers of its task and unit, and its own among those of this task
+    at this unit, from 1."""
+
+    task: int
+    unit: int
+    number: int
+
+    def __str__(self) -> str:
+        return f"{self.task} {self.unit} {self.number}"
+
+
+@dataclass(frozen=True)
+class Answer:
+    """What an event did. As text it is the answer of a scenario, such as `Ended 0 0 1 7F`."""
+
+    kind: Kind
+    name: Optional[Name] = None
+    commands: int = 0
+    code: int = 0
+
+    def __str__(self) -> str:
+        words = [self.kind.word]
+        if self.name:
+            words.append(str(self.name))
+        if self.kind in (Kind.RAN, Kind.RAN_PENDING):
+            words.append(str(self.commands))
+        if self.kind == Kind.RAN_PENDING:
+            words.append("pending")
+        if self.kind == Kind.ENDED:
+            words.append(f"{self.code:02X}")
+        return " ".join(words)
+
+
+@dataclass(frozen=True)
+class Served:
+    """What `serve` did."""
+
+    posts: int
+    commands: int
+    ended: ServedEnd
+
+
+@dataclass(frozen=True)
+class Post:
+    """How a request ended, and its storage as its channel program left it. As text it is the line
+    of a run, without the bytes that a script shows."""
+
+    name: Name
+    dcb: int
+    code: int
+    csw: Csw
+    sense: int
+    base: int
+    storage: bytes
+
+    def at(self, address: int, length: int) -> bytes:
+        """Bytes of the storage."""
+        return piece_of(self.storage, self.base, address, length)
+
+    def area(self) -> Area:
+        """The storage as an area that can be issued again. Clear its ECB first, as a program under
+        MVS does."""
+        return Area(self.base, self.storage)
+
+    def __str__(self) -> str:
+        csw, status = self.csw, f"{self.csw.unit:02X}{self.csw.sub:02X}"
+        ended = f"{csw.address:06X} {status} {csw.residual:04X} {self.sense:04X}"
+        return f"post {self.name} {self.code:02X} {ended}"
+
+
+@dataclass(frozen=True)
+class UnitState:
+    """What is at a unit: the active request and what it does; the requests that wait, in the order
+    in which they are started; how many requests are in flight to it, and how many more may be; how
+    many posted ones were not delivered; whether it can take another request; and how many lines it
+    printed."""
+
+    device: Device
+    active: Optional[Name]
+    phase: Active
+    waiting: Tuple[Name, ...]
+    in_flight: int
+    in_flight_room: int
+    out: int
+    has_room: bool
+    printed: int
+
+
+@dataclass(frozen=True)
+class DcbState:
+    phase: DcbPhase
+    in_error: bool
+    file_mask: int
+
+
+@dataclass(frozen=True)
+class Record:
+    """A record of a disk: its CCHHR, its data and its key."""
+
+    cylinder: int
+    head: int
+    number: int
+    data: bytes
+    key: bytes = b""
+
+
+@dataclass(frozen=True)
+class Line:
+    """A printed line. `page` and `line` count from 1; `data` is EBCDIC."""
+
+    page: int
+    line: int
+    data: bytes
+
+    @property
+    def text(self) -> str:
+        """The line as characters of code page 037."""
+        return self.data.decode("cp037")
+
+
+@dataclass(frozen=True)
+class Fault:
+    """The device's command with this number, from 1, ends with this status."""
+
+    command: int
+    unit_status: int = 0x0E
+    channel_status: int = 0x00
+    sense: int = 0x0000
+
+
+class TapeMark:
+    """The type of `TAPE_MARK`."""
+
+    def __repr__(self) -> str:
+        return "TAPE_MARK"
+
+
+TAPE_MARK = TapeMark()
