@@ -39,7 +39,7 @@ uint32_t excp_call_look_dcb(SITE, uint16_t unit, uint16_t dcb, excp_dcb_state *s
 uint32_t excp_call_waiting(SITE, uint16_t unit, uint32_t place, uint16_t *task, uint64_t *number);
 uint32_t excp_call_read_record(SITE, uint16_t unit, uint16_t cylinder, uint16_t head, uint32_t place, excp_record *record, ROOM(bytes));
 uint32_t excp_call_printed_line(SITE, uint16_t unit, uint32_t place, excp_line *line, ROOM(bytes));
-uint32_t excp_call_make_history(SITE, uint16_t unit, size_t *length);
+uint32_t excp_call_make_record(SITE, uint16_t unit, uint64_t most_steps, size_t *length);
 uint32_t excp_call_make_image(SITE, uint16_t unit, size_t *length);
 uint32_t excp_call_made_length(SITE, size_t *length);
 uint32_t excp_call_copy_out(SITE, size_t from, ROOM(bytes));
@@ -147,7 +147,7 @@ CALL(read_record, (SITE, uint16_t unit, uint16_t cylinder, uint16_t head, uint32
      site && record && IS_SLICE(bytes, room), site, unit, cylinder, head, place, record, BYTES(bytes, room))
 CALL(printed_line, (SITE, uint16_t unit, uint32_t place, excp_line *line, uint8_t *bytes, size_t room),
      site && line && IS_SLICE(bytes, room), site, unit, place, line, BYTES(bytes, room))
-CALL(make_history, (SITE, uint16_t unit, size_t *length), site && length, site, unit, length)
+CALL(make_record, (SITE, uint16_t unit, uint64_t most_steps, size_t *length), site && length, site, unit, most_steps, length)
 CALL(make_image, (SITE, uint16_t unit, size_t *length), site && length, site, unit, length)
 CALL(made_length, (SITE, size_t *length), site && length, site, length)
 CALL(copy_out, (SITE, size_t from, uint8_t *bytes, size_t length), site && IS_SLICE(bytes, length), site, from, BYTES(bytes, length))

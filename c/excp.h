@@ -289,12 +289,13 @@ typedef struct excp_line {
  * than `room`. EXCP_NOTHING_THERE: there is no such line. EXCP_BAD_MEDIUM: the unit is no printer. */
 excp_status excp_printed_line(excp_site *site, uint16_t unit, uint32_t place, excp_line *line, uint8_t *bytes, size_t room);
 
-/* Histories and images. A site keeps the bytes that were made last: each of these calls makes them anew, and says how many there are.
+/* Records and images. A site keeps the bytes that were made last: each of these calls makes them anew, and says how many there are.
  * excp_copy_out copies `length` of them, from the place `from` on (EXCP_NO_ROOM: there are not so many). */
 
-/* What happened at a unit since it was mounted, or since its last checkpoint, as text: a line for each entry, and no NUL. Requests
- * have the numbers that they have there, from 1 on. */
-excp_status excp_make_history(excp_site *site, uint16_t unit, size_t *length);
+/* What happened at a unit since it was mounted, or since its last checkpoint, and its medium, as lines of JSON (docs/REPORT.md): an
+ * object for each entry, and for each of its first `most_steps` commands, and no NUL. Requests have the numbers that they have there,
+ * from 1 on. A command that met a fault of the unit has no number of that; `bytes`, `lines` and `pages` of the medium are null. */
+excp_status excp_make_record(excp_site *site, uint16_t unit, uint64_t most_steps, size_t *length);
 
 /* The medium of a unit as an image: a disk as CKD_P370, a tape as AWSTAPE, the paper of a printer as text in UTF-8
  * (docs/FORMATS.md). What was not written is as in the image that the unit came from. A checkpoint leaves the image as it is. */

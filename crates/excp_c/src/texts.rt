@@ -1,27 +1,32 @@
-//! Bytes that are made and copied out (c/excp.h, "Histories and images").
+//! Bytes that are made and copied out (c/excp.h, "Records and images").
 
 ghost use Rattle.std.specs.Prelude.{◌≡◌, ◌≢◌, ◌<◌, ◌+◌, drop, length, take};
 ghost use Rattle.excp_c.specs.Calls.{KeepsSite, SameSite, TestsSite};
 ghost use Rattle.excp_site.specs.Imaging.{ImageRefused, MakesImage};
-ghost use Rattle.excp_site.specs.Refusals.{HistoryRefused, NoRoomFor};
+ghost use Rattle.excp_site.specs.Refusals.{MakeRefused, NoRoomFor};
 ghost use Rattle.excp_c.specs.Done.{Did, Refused};
 
 use crate::handle::Handle;
 use crate::status::{NO_SITE, OK, done, give};
 
-/// `excp_make_history`.
+/// `excp_make_record`.
 #[unsafe(no_mangle)]
-pub extern "C" fn excp_call_make_history(handle: &mut Handle, unit: u16, count: &mut usize) -> u32
+pub extern "C" fn excp_call_make_record(
+    handle: &mut Handle,
+    unit: u16,
+    most_steps: u64,
+    count: &mut usize,
+) -> u32
     ensures site { TestsSite handle.old result }
     ensures keeps { KeepsSite handle.old handle.new }
     ensures done { result ≡ 0 → Did handle.old handle.new (λ s t. (unit < length s.plain.units) × (count.new ≡ length t.made) × (t ≡ record s { made = t.made })) }
-    ensures why { result ≢ 0 → result ≢ 3 → Refused handle.old handle.new result (λ s _. HistoryRefused s.plain unit) }
+    ensures why { result ≢ 0 → result ≢ 3 → Refused handle.old handle.new result (λ s _. MakeRefused s.plain unit) }
     ensures refused { result ≢ 0 → SameSite handle.old handle.new × (count.new ≡ count.old) }
 {
     let Some(site) = handle.site() else {
         return NO_SITE;
     };
-    give(site.make_history(unit), count)
+    give(site.make_record(unit, most_steps), count)
 }
 
 /// `excp_make_image`.

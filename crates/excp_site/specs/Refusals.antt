@@ -104,11 +104,11 @@ ExtentsRefused bytes BadExtent = length bytes % 16 ≢ 0
 ExtentsRefused bytes NoMemory = length bytes % 16 ≡ 0
 ExtentsRefused bytes _ = ⊥
 
--- A HISTORY THAT IS NOT MADE
-abbrev pub HistoryRefused : SiteState AnyDevice → ℕ → Refusal → Type 0
-HistoryRefused s unit NoUnit = length s.units ≤ unit
-HistoryRefused s unit NoMemory = unit < length s.units
-HistoryRefused s unit _ = ⊥
+-- A RECORD THAT IS NOT MADE
+abbrev pub MakeRefused : SiteState AnyDevice → ℕ → Refusal → Type 0
+MakeRefused s unit NoUnit = length s.units ≤ unit
+MakeRefused s unit NoMemory = unit < length s.units
+MakeRefused s unit _ = ⊥
 
 -- BYTES THAT ARE NOT THERE
 abbrev pub NoRoomFor : ℕ → ℕ → Refusal → Type 0

@@ -1,7 +1,7 @@
 //! `excp_tools` has what the words `report`, `step` and `outcomes` run. The package python/excp, whose command is `excp`, has
 //! judged all that its user types. It hands over plain words ([`words`]), the script as standard input, in plain lines, and the
-//! files of media, which it has opened. `report` runs a script, and prints the post of each request and what the run left
-//! behind. `step` carries out a scenario event by event. `outcomes` prints the posts over all orders of steps.
+//! files of media, which it has opened. `report` runs a script, and prints the record of the run (docs/REPORT.md). `step` carries
+//! out a scenario event by event, and prints its answers or its record. `outcomes` prints the posts over all orders of steps.
 //!
 //! What is wrong with a script, an image, or a unit that has neither, the package says: the statuses from [`REFUSED`] on are for
 //! it.
@@ -12,8 +12,8 @@
 mod images;
 mod outcomes;
 mod pace;
-mod pictures;
 mod progress;
+mod record;
 mod report;
 mod saver;
 mod scenario;

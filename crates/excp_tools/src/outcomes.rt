@@ -128,7 +128,7 @@ pub fn outcomes(
         };
         return print_scenario(rt, is_broken, place, &scenario);
     }
-    let screen = Screen::new(rt.stdout(), false, is_broken);
+    let screen = Screen::new(rt.stdout(), is_broken);
     let Ok(mut out) = BufWriter::new(alloc, screen) else {
         return Err(JobError::NoMemory);
     };
@@ -198,7 +198,7 @@ fn print_scenario(
         );
         return Ok(REJECTED);
     };
-    let mut screen = Screen::new(rt.stdout(), false, is_broken);
+    let mut screen = Screen::new(rt.stdout(), is_broken);
     screen.write_all(text).or(Err(JobError::NotWritten))?;
     screen.flush().or(Err(JobError::NotWritten))?;
     Ok(if scenario.is_complete { 0 } else { NOT_ALL })

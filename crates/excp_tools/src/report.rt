@@ -1,56 +1,34 @@
-//! A run of a script, on threads or by a seed, and its report.
+//! A run of a script, on threads or by a seed, and its record.
 
-use crate::pictures::{Left, Picture, print_script};
+use crate::UNFIT;
+use crate::record::print_record;
 use crate::saver::{Medium, Saver, fits, write_text};
-use crate::screen::Screen;
 use crate::script::{SizedScript, read_sized};
-use crate::words::{Form, Words};
-use crate::{UNFIT, takes_colour};
+use crate::words::Words;
 use any_device::AnyDevice;
 use job_media::{MountedImages, mount_images};
 use job_script::{JobError, Script};
 use medium_image::{Image, Kept};
-use recorded_run::{report_posts, run_recorded, write_report};
-use run_record::write_posts;
+use recorded_run::{run_recorded, run_seeded, unit_records};
+use run_record::{Run, TaskRecord};
 use std::cell::Cell;
-use std::io::{BufWriter, Stdout, Write};
 use std::sync::Wait;
 use std::thread::Threads;
-use stepped_run::run_seeded;
 use unit_book::UnitBook;
+use unit_history::HistoryError;
 
-/// Standard output, for a report in words.
-type Output<'a> = BufWriter<Screen<'a, Stdout>>;
-
-/// Runs the script of standard input, prints its posts and what the run left behind, and saves media. Returns the exit status.
-/// `is_broken` is set once nothing reads any more what is printed.
-pub fn report<R: Threads + Wait + Sync>(
-    rt: &HostRuntime,
-    threads: &R,
-    words: &Words,
-    images: Vec<Option<Image>>,
-    is_broken: &Cell<bool>,
-) -> Result<u8, JobError> {
-    let is_plain = images.is_empty() && words.saves.is_empty() && words.seed.is_none();
-    let steps = match words.form {
-        Form::Text if is_plain => None,
-        Form::Steps if is_plain => Some(words.most),
-        _ => return report_parsed(rt, threads, words, images, is_broken),
-    };
-    let mut out = screen(rt, is_broken)?;
-    let mut run = report_posts(
-        threads,
-        rt.alloc(),
-        &mut rt.stdin(),
-        &mut out,
-        words.workers(),
-    )?;
-    run.write_rest(steps, &mut out)?;
-    Ok(0)
+/// What a run left: the record of each task, the books of the units, and for each unit the places of its entries in one order
+/// of all units, if the run has one.
+#[derive(Clone, Copy)]
+struct Left<'a> {
+    tasks: &'a [TaskRecord],
+    books: &'a [UnitBook<AnyDevice>],
+    places: Option<&'a [Vec<usize>]>,
 }
 
-/// Prints the report of a script with media from images, in another form, or by a seed.
-fn report_parsed<R: Threads + Wait + Sync>(
+/// Runs the script of standard input, prints the record of the run, and saves media. Returns the exit status. `is_broken` is set
+/// once nothing reads any more what is printed.
+pub fn report<R: Threads + Wait + Sync>(
     rt: &HostRuntime,
     threads: &R,
     words: &Words,
@@ -89,13 +67,13 @@ fn report_parsed<R: Threads + Wait + Sync>(
         }
     };
     match printed {
-        // the media are saved, although nothing reads the report
+        // the media are saved, although nothing reads the record
         Err(JobError::NotWritten) if is_broken.get() => Ok(saver.status),
         _ => printed.map(|()| saver.status),
     }
 }
 
-/// Prints what a run left, and saves its media.
+/// Prints the record of a run, and saves its media.
 fn print_and_save(
     rt: &HostRuntime,
     script: &Script,
@@ -105,70 +83,29 @@ fn print_and_save(
     saver: &mut Saver<'_>,
     kept: &[Option<Kept>],
 ) -> Result<(), JobError> {
-    let printed = print_report(rt, script, left, words, is_broken);
+    let printed = print_left(rt, script, left, words, is_broken);
     save_media(saver, left.books, kept);
     printed
 }
 
-/// Prints what a run came to.
-fn print_report(
+/// Prints the record of what a run left.
+fn print_left(
     rt: &HostRuntime,
     script: &Script,
     left: Left<'_>,
     words: &Words,
     is_broken: &Cell<bool>,
 ) -> Result<(), JobError> {
-    let steps = match words.form {
-        Form::Posts => return print_posts(rt, left, is_broken),
-        Form::Text => None,
-        Form::Steps => Some(words.most),
-        Form::Json => {
-            return print_as(
-                Picture::Json(words.most),
-                rt,
-                script,
-                left,
-                words,
-                is_broken,
-            );
-        }
-        Form::Html => return print_as(Picture::Html, rt, script, left, words, is_broken),
+    let units = unit_records(rt.alloc(), &script.set_up, left.books, left.places)?;
+    let run = Run {
+        tasks: left.tasks,
+        units: &units,
     };
-    let mut out = screen(rt, is_broken)?;
-    write_report(
-        rt.alloc(),
-        left.tasks,
-        &script.set_up,
-        left.books,
-        steps,
-        &mut out,
-    )
-}
-
-/// Prints a run in a form for programs and browsers.
-fn print_as(
-    picture: Picture,
-    rt: &HostRuntime,
-    script: &Script,
-    left: Left<'_>,
-    words: &Words,
-    is_broken: &Cell<bool>,
-) -> Result<(), JobError> {
-    let screen = Screen::new(rt.stdout(), false, is_broken);
-    let title = words.title.as_str();
-    print_script(rt.alloc(), script, left, title, picture, screen)
-}
-
-/// Prints the posts of a run alone.
-fn print_posts(rt: &HostRuntime, left: Left<'_>, is_broken: &Cell<bool>) -> Result<(), JobError> {
-    let mut out = screen(rt, is_broken)?;
-    write_posts(&mut out, left.tasks).or(Err(JobError::NotWritten))?;
-    out.flush().or(Err(JobError::NotWritten))
-}
-
-fn screen<'a>(rt: &HostRuntime, is_broken: &'a Cell<bool>) -> Result<Output<'a>, JobError> {
-    let screen = Screen::new(rt.stdout(), takes_colour(rt, rt.stdout()), is_broken);
-    BufWriter::new(rt.alloc(), screen).or(Err(JobError::NoMemory))
+    match print_record(rt, &run, words.part(), is_broken) {
+        Ok(()) => Ok(()),
+        Err(HistoryError::NoMemory) => Err(JobError::NoMemory),
+        Err(HistoryError::NotWritten) => Err(JobError::NotWritten),
+    }
 }
 
 /// Writes the media of a run that are to be saved.

@@ -1,9 +1,9 @@
 //! A scenario, carried out event by event.
 
-use crate::pictures::{Picture, print_run};
+use crate::record::print_record;
 use crate::saver::{Medium, Saver, fits};
 use crate::screen::Screen;
-use crate::words::{Form, Words};
+use crate::words::Words;
 use crate::{UNFIT, UNMET, takes_colour};
 use any_device::AnyDevice;
 use job_script::{JobError, UnitSetup};
@@ -37,13 +37,10 @@ impl<'a> Keeper for EndKeeper<'a> {
     }
 
     fn record(&mut self, run: &Run<'_>) -> Result<(), HistoryError> {
-        let picture = match self.words.form {
-            Form::Json => Picture::Json(self.words.most),
-            Form::Html => Picture::Html,
-            _ => return Ok(()),
-        };
-        let screen = Screen::new(self.rt.stdout(), false, self.is_broken);
-        print_run(self.rt.alloc(), run, picture, screen)
+        match self.words.form {
+            None => Ok(()),
+            Some(_) => print_record(self.rt, run, self.words.part(), self.is_broken),
+        }
     }
 }
 
@@ -56,11 +53,11 @@ pub fn step(
     is_broken: &Cell<bool>,
 ) -> Result<u8, JobError> {
     match words.form {
-        Form::Json | Form::Html => carry_out(rt, words, images, &mut sink(), is_broken),
-        _ => {
-            let mut screen = Screen::new(rt.stdout(), false, is_broken);
+        None => {
+            let mut screen = Screen::new(rt.stdout(), is_broken);
             carry_out(rt, words, images, &mut screen, is_broken)
         }
+        Some(_) => carry_out(rt, words, images, &mut sink(), is_broken),
     }
 }
 

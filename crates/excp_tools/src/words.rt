@@ -6,6 +6,7 @@ ghost use Rattle.std.specs.Prelude.{◌≤◌};
 
 use job_run::Workers;
 use job_script::JobError;
+use record_lines::Part;
 use std::alloc::{AllocError, Global};
 use std::env;
 use std::io::ErrorKind;
@@ -21,14 +22,12 @@ pub enum Word {
     Outcomes,
 }
 
-/// The form of what is printed. Of a scenario, `Text` is its answers.
+/// Which part of the record of a run is printed.
 #[derive(Clone, Copy)]
 pub enum Form {
-    Text,
     Posts,
+    Events,
     Steps,
-    Json,
-    Html,
 }
 
 /// A file that the package has opened: its path, and its name in texts.
@@ -60,9 +59,10 @@ pub struct Words {
     pub word: Word,
     /// The name of the script.
     pub title: String,
-    pub form: Form,
+    /// The part of the record; of a scenario, if there is none, its answers.
+    pub form: Option<Form>,
     /// The most commands of each unit that are printed.
-    pub most: u64,
+    most: u64,
     pub loads: Vec<UnitFile>,
     pub saves: Vec<UnitFile>,
     channels: u8,
@@ -93,7 +93,7 @@ impl Words {
         Words {
             word,
             title: String::new(alloc),
-            form: Form::Text,
+            form: None,
             most: u64::MAX,
             loads: Vec::new(alloc),
             saves: Vec::new(alloc),
@@ -123,6 +123,15 @@ impl Words {
         }
     }
 
+    /// The part of the record of a run that is printed.
+    pub fn part(&self) -> Part {
+        match self.form {
+            Some(Form::Posts) => Part::Posts,
+            Some(Form::Steps) => Part::Steps(self.most),
+            Some(Form::Events) | None => Part::Events,
+        }
+    }
+
     /// Takes a name with its value. Returns whether there is such a one.
     fn take(&mut self, alloc: Global, name: &str, value: &str) -> Result<bool, AllocError> {
         match name {
@@ -143,7 +152,7 @@ impl Words {
     /// Sets what a form or a number is the value of.
     fn set(&mut self, name: &str, value: &str) -> Option<()> {
         match name {
-            "form" => self.form = form_of(value)?,
+            "form" => self.form = Some(form_of(value)?),
             "outcome" => self.outcome = Some(place_of(value)?),
             "channels" => self.channels = value.parse().ok()?,
             "handlers" => self.handlers = value.parse().ok()?,
@@ -223,11 +232,9 @@ fn word_of(word: &str) -> Option<Word> {
 
 fn form_of(value: &str) -> Option<Form> {
     match value {
-        "text" => Some(Form::Text),
         "posts" => Some(Form::Posts),
+        "events" => Some(Form::Events),
         "steps" => Some(Form::Steps),
-        "json" => Some(Form::Json),
-        "html" => Some(Form::Html),
         _ => None,
     }
 }

@@ -2,10 +2,10 @@
 
 use job_world::{Issuing, StepAnswer};
 use post_lines::write_posted;
+use recorded_run::StepPast;
 use request_piece::{Name, Posted};
 use std::alloc::AllocError;
 use std::io::{Result as IoResult, Write};
-use stepped_run::StepPast;
 use unit_book::{Closing, Delivery, Intake, Interruption, OpenError, Purging, Running, Starting};
 
 /// Writes the answer of a step. `unit` is the unit of its request. A post is noted in the past.

@@ -10,6 +10,7 @@
 
 mod answer;
 mod dialog;
+mod keeper;
 mod line_steps;
 mod plan;
 mod printer;
@@ -22,11 +23,11 @@ mod view;
 
 pub use answer::write_end;
 pub use dialog::Dialog;
+pub use keeper::Keeper;
 pub use line_steps::LineSteps;
 pub use plan::Plan;
 pub use printer::Printer;
 pub use report::{Images, step_scenario_on};
 pub use rooms::Rooms;
 pub use source::{FileName, Source};
-pub use stepped_run::Keeper;
 pub use view::{View, Views};

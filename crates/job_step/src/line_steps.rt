@@ -11,9 +11,9 @@ use job_script::{
     Action, Command, DcbName, Excp, ExcpLine, FaultName, Line, Opening, Refusal, SetUp, SetUpLine,
 };
 use job_world::{StepAnswer, Supply};
+use recorded_run::StepPast;
 use request_piece::Scope;
 use std::alloc::AllocError;
-use stepped_run::StepPast;
 use unit_book::{Delivery, Mode};
 
 /// The most commands of a turn in which a program runs to its end. A program fetches at most 4,096 CCWs.

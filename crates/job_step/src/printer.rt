@@ -38,11 +38,6 @@ impl<'a, W: Write, E: Write> Printer<'a, W, E> {
         self.is_met
     }
 
-    /// The name of the scenario.
-    pub fn title(&self) -> &'a str {
-        self.source.name
-    }
-
     /// Prints at once the lines of an answer, each after the words of its event, and the lines of a view.
     pub fn answer(&mut self, event: &[u8], answer: &[u8], view: &[u8]) -> Result<(), JobError> {
         self.compared = 0;

@@ -1,6 +1,7 @@
 //! A scenario from its first line to its last.
 
 use crate::dialog::Dialog;
+use crate::keeper::{Keeper, KeptMedia};
 use crate::printer::Printer;
 use crate::source::Source;
 use crate::stepper::Stepper;
@@ -10,7 +11,6 @@ use job_script::JobError;
 use medium_image::Image;
 use std::alloc::Global;
 use std::io::{Read, Write};
-use stepped_run::{Keeper, KeptMedia};
 
 /// The images of units, by their numbers, and what takes over the media at the end.
 #[derive(Drop)]

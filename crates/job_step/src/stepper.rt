@@ -5,6 +5,7 @@ ghost use Rattle.job_mount.specs.Books.{IsFresh};
 
 use crate::answer::write_end;
 use crate::dialog::Dialog;
+use crate::keeper::{Keeper, KeptMedia};
 use crate::line_steps::LineSteps;
 use crate::plan::Plan;
 use crate::view::{View, Views};
@@ -12,10 +13,10 @@ use any_device::AnyDevice;
 use job_scenario::Step;
 use job_script::{JobError, LIMIT, SetUp};
 use job_world::JobSite;
+use recorded_run::StepPast;
 use run_record::Run;
 use std::alloc::{AllocError, Global};
 use std::io::{Read, Write};
-use stepped_run::{Keeper, KeptMedia, StepPast};
 use unit_book::UnitBook;
 use unit_history::HistoryError;
 use unit_world::PlainSite;
@@ -66,14 +67,14 @@ impl<'a> Stepper<'a> {
             };
             if steps.step() == Some(Step::Finish) {
                 self.finish(&mut dialog.answer)?;
-                self.hand_over(dialog.printer.title(), media)?;
+                self.hand_over(media)?;
             } else {
                 self.make_all(&mut steps, &mut dialog.answer)?;
             }
             dialog.print(&self.view.text)?;
         }
         if dialog.is_open() {
-            self.hand_over(dialog.printer.title(), media)?;
+            self.hand_over(media)?;
         }
         Ok(())
     }
@@ -111,19 +112,14 @@ impl<'a> Stepper<'a> {
         Ok(())
     }
 
-    /// Hands over the medium of each unit, and then the record of a scenario with this name.
-    fn hand_over<K: Keeper>(
-        &self,
-        title: &str,
-        media: &mut KeptMedia<'_, K>,
-    ) -> Result<(), JobError> {
+    /// Hands over the medium of each unit, and then the record of the scenario.
+    fn hand_over<K: Keeper>(&self, media: &mut KeptMedia<'_, K>) -> Result<(), JobError> {
         let site = self.site.site();
         for unit in 0..site.units().min(65_536) {
             media.keep(unit as u16, site.book(unit as u16));
         }
         let units = self.past.units(self.alloc, self.set_up, site)?;
         let run = Run {
-            title,
             tasks: &self.past.tasks,
             units: &units,
         };

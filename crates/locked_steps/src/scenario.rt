@@ -10,11 +10,11 @@ use excp_system::{Opened, Rows, System};
 use job_scenario::Step;
 use job_script::{JobError, LIMIT, SetUp};
 use job_step::{Dialog, LineSteps, Plan, View, Views, write_end};
+use recorded_run::StepPast;
 use std::alloc::{AllocError, Global};
 use std::io::{Read, Write};
 use std::marker::Brand;
 use std::sync::Wait;
-use stepped_run::StepPast;
 use unit_book::UnitBook;
 
 /// Makes the rows of a plan, and carries the events out.

@@ -9,10 +9,12 @@ ghost use Rattle.std.specs.List.{list_all};
 ghost use Rattle.unit_book.specs.Trace.{is_opening};
 ghost use Rattle.excp_system.specs.Opening.{AreBooks};
 
+mod characters;
 mod copy;
 
 use any_device::AnyDevice;
 use anyhow::Result;
+use characters::Text;
 use copy::{CopyTape, PRINTER};
 use excp_system::Rows;
 use line_printer::Printer;
@@ -21,7 +23,6 @@ use std::io::Write;
 use system_threads::{Workers, run_program};
 use tape_unit::{InitialItem, Tape};
 use unit_book::{ProcessingMethod, UnitBook};
-use unit_history::Text;
 
 /// The blocks of the tape, in EBCDIC; the file `stdout` of this crate has them as they are printed.
 static BLOCKS: [&[u8]; 3] = [

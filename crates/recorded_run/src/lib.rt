@@ -1,14 +1,19 @@
-//! The run of a script with all that reports print of it: the posts, what its tasks did, and what its units did.
+//! The record of a run of a script: by threads, by the schedule of a seed, or by the steps of a scenario.
 //!
-//! It is the run of `job_run`, whose tasks also note their events and the IOBs of their requests.
+//! A run by threads is that of `job_run`, whose tasks also note their events and the IOBs of their requests.
 //!
-//! Tests: job_tests, tests/cases/histories, the group reports of tests/run.
+//! Tests: job_tests, tests/cases/histories, tests/cases/scenarios, the groups reports and seeds of tests/run.
 #![tactic(auto)]
 
 mod noted;
-mod output;
+mod order;
+mod past;
 mod run;
+mod seeded;
+mod units;
 
 pub use noted::Noted;
-pub use output::write_report;
-pub use run::{PrintedRun, RecordedRun, report_posts, run_recorded};
+pub use past::StepPast;
+pub use run::{RecordedRun, run_recorded};
+pub use seeded::{SeededRun, run_seeded};
+pub use units::unit_records;

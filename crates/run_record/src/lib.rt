@@ -1,21 +1,14 @@
-//! The record of a run: what its tasks did and how their requests ended, and the books of its units. Reports of every form
-//! are written from it. It knows no script.
+//! The record of a run: what its tasks did and how their requests ended, and the books of its units. It knows no script.
 //!
 //! Tests: tests/cases/scripts, tests/cases/histories, the group reports of tests/run.
 #![tactic(auto)]
 
-mod controls;
-mod posts;
 mod run;
 mod task_event;
 mod task_notes;
 mod task_record;
-mod track;
 
-pub use controls::Controls;
-pub use posts::write_posts;
 pub use run::{Room, Run, UnitRecord};
 pub use task_event::TaskEvent;
 pub use task_notes::TaskNotes;
 pub use task_record::{Ended, TaskRecord};
-pub use track::Track;

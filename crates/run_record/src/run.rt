@@ -1,4 +1,4 @@
-//! A run, as reports show it.
+//! A run, as its record shows it.
 
 use crate::task_record::TaskRecord;
 use any_device::AnyDevice;
@@ -8,7 +8,6 @@ use unit_book::UnitBook;
 /// A run that has ended.
 #[derive(Clone, Copy)]
 pub struct Run<'a> {
-    pub title: &'a str,
     /// The tasks, by their numbers.
     pub tasks: &'a [TaskRecord],
     /// The units, by their numbers.
@@ -28,7 +27,8 @@ pub struct UnitRecord<'a> {
     pub book: &'a UnitBook<AnyDevice>,
     /// The faults that its device was to meet.
     pub faults: &'a [Fault],
-    pub room: Room,
+    /// The room of its medium, where its device does not tell it, if that is known.
+    pub room: Option<Room>,
     /// The place of each entry in the one order of the entries of all units, if the run has one. An entry from before its
     /// first event has the place 0.
     pub places: Option<&'a [usize]>,
@@ -46,10 +46,9 @@ impl<'a> UnitRecord<'a> {
     }
 }
 
-/// The room of a medium, where its device does not tell it.
+/// The room of a medium.
 #[derive(Clone, Copy)]
 pub enum Room {
-    Disk,
     Tape { bytes: u64 },
     Printer { lines: u64, pages: u64 },
 }

@@ -1,6 +1,12 @@
--- The lemmas of unit_history.
+-- The lemmas of unit_history: the events, and that a replay keeps to its trace.
+pub mod Before
+pub mod Begun
 pub mod DcbLaws
 pub mod DoomCauses
+pub mod Entries
+pub mod Next
 pub mod OrderlyLaws
 pub mod PastLaws
+pub mod Runs
+pub mod Steps
 pub mod TurnLaws

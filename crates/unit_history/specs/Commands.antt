@@ -1,7 +1,7 @@
 -- THE COMMANDS of a unit's programs, replayed (profile).
 use Rattle.std.specs.Prelude.{◌≡◌, ◌≢◌, ℕ, false, if◌then◌else◌, Some, reverse, slice_get}
 use Rattle.device_port.specs.Meaning.{Meaning}
-use Rattle.trace_replay.specs.Replayed.{IsBetweenPrograms, IsFirstStart, ListsNext, ReplayPlace, ShowsArea, ShowsContext, next_place, so_far}
+use Rattle.unit_history.specs.Replayed.{IsBetweenPrograms, IsFirstStart, ListsNext, ReplayPlace, ShowsArea, ShowsContext, next_place, so_far}
 use Rattle.unit_book.specs.Book.{Book}
 use Rattle.unit_history.specs.declared.command.Command.{Command as Described}
 use Rattle.unit_history.specs.declared.commands.Commands.{Commands}

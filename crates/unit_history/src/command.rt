@@ -1,13 +1,10 @@
 //! A command of a history: its CCWs, the first of the bytes that it moved, and how it ended.
 
-ghost use Rattle.std.specs.Prelude.{◌≡◌};
-
+use crate::place::Place;
 use ccw_programs::{Context, Link, Listing, Rule, State};
-use command_table::{command_name, mnemonic};
-use device_port::{Flow, Kind, Segment};
+use device_port::{Flow, Segment};
 use io_area::Area;
 use io_images::Csw;
-use step_places::Place;
 
 /// The most bytes of a command's data that are shown.
 const SHOWN: u32 = 16;
@@ -15,12 +12,11 @@ const SHOWN: u32 = 16;
 /// A command of a channel program, after it was done.
 #[derive(Drop)]
 pub struct Command<'c> {
-    kind: Kind,
-    listing: Listing<'c>,
-    context: &'c Context,
-    area: &'c Area,
-    fault: Option<usize>,
-    place: Option<Place<'c>>,
+    pub(crate) listing: Listing<'c>,
+    pub(crate) context: &'c Context,
+    pub(crate) area: &'c Area,
+    pub(crate) fault: Option<usize>,
+    pub(crate) place: Option<Place<'c>>,
 }
 
 /// The bytes that a command moved, and the first of them.
@@ -82,47 +78,9 @@ pub enum After {
 }
 
 impl<'c> Command<'c> {
-    /// A command that a device of this kind did.
-    pub(crate) fn new(
-        kind: Kind,
-        listing: Listing<'c>,
-        context: &'c Context,
-        area: &'c Area,
-        fault: Option<usize>,
-        place: Option<Place<'c>>,
-    ) -> Command<'c>
-        ensures { result ≡ record { kind = kind; listing = listing.entry; context = context.entry; area = area.entry; fault = fault; place = place.entry } }
-    {
-        Command {
-            kind,
-            listing,
-            context,
-            area,
-            fault,
-            place,
-        }
-    }
-
     /// Its CCWs: the command itself, and the CCWs of its data chain.
     pub fn links(&self) -> &'c [Link] {
         self.listing.links
-    }
-
-    /// The name of the command of a CCW, by its place in the chain.
-    pub fn name(&self, place: usize) -> &'static str {
-        match self.listing.links.get(place) {
-            Some(link) if place == 0 => command_name(self.kind, link.ccw.command),
-            _ => "data",
-        }
-    }
-
-    /// The mnemonic of the command of a CCW, by its place in the chain. A CCW that continues data has none, nor has a command that
-    /// the device does not have.
-    pub fn mnemonic(&self, place: usize) -> Option<&'static str> {
-        match self.listing.links.get(place) {
-            Some(link) if place == 0 => mnemonic(self.kind, link.ccw.command),
-            _ => None,
-        }
     }
 
     /// The number of the fault of the unit that it met, from 1.

@@ -1,17 +1,18 @@
 //! The commands of a unit's programs, replayed from its trace one by one.
 
 ghost use Rattle.std.specs.Prelude.{◌≡◌, ◌≢◌, ◌-◌, ◌==◌, ◌||◌, None, not, false, true, IfOk, MatchOption, OnErr, OnOk};
-ghost use Rattle.trace_replay.specs.Replayed.{so_far};
+ghost use Rattle.unit_history.specs.Replayed.{so_far};
 ghost use Rattle.unit_book.specs.Trace.{active};
 ghost use Rattle.unit_history.specs.Commands.{Describes, GivesNext, IsUnreplayed, PassesEntry, StartsNext, place_behind};
 
+use crate::before::{Before, Placed};
 use crate::command::Command;
 use crate::done::done;
+use crate::place::Place;
+use crate::replay::Replay;
 use ccw_programs::{Listing, Workspace};
-use device_port::{Device, Fault, Kind};
+use device_port::{Device, Fault};
 use std::alloc::AllocError;
-use step_places::{Before, Place, Placed};
-use trace_replay::Replay;
 use unit_book::UnitBook;
 
 /// Which commands of a unit are described: the first `most`. `faults` are those that its device was to meet, in the order of
@@ -26,7 +27,6 @@ pub struct CommandList<'f> {
 #[derive(Drop)]
 pub struct Commands<'t, D: Device> {
     replay: Replay<'t, D>,
-    kind: Kind,
     /// What the place of the next command depends on.
     before: Before,
     faults: &'t [Fault],
@@ -70,7 +70,6 @@ impl<'t, D: Device> Commands<'t, D> {
     {
         Ok(Commands {
             replay: Replay::of(book)?,
-            kind: book.mounted().kind(),
             before: Before::new(),
             faults: commands.faults,
             met: 0,
@@ -158,7 +157,13 @@ impl<'t, D: Placed> Commands<'t, D> {
         let context = self.replay.context()?;
         let area = self.replay.area()?;
         let place = place_of(&self.replay, &mut before, &listing, fault);
-        Some(Command::new(self.kind, listing, context, area, fault, place))
+        Some(Command {
+            listing,
+            context,
+            area,
+            fault,
+            place,
+        })
     }
 }
 

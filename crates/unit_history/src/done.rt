@@ -1,7 +1,7 @@
 //! How a command ended, as far as its place on the medium depends on that.
 
+use crate::before::{Done, Ended};
 use ccw_programs::{Context, Listing, State};
-use step_places::{Done, Ended};
 
 /// Unit check, a bit of unit status (Principles of Operation, chapter 16, "Device-Status Field").
 const UNIT_CHECK: u8 = 0x02;

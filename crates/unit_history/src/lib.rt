@@ -1,32 +1,35 @@
-//! The history of a unit: the events of its trace, and the commands of its channel programs, replayed. One description of
-//! them serves all that show a history; here is the one in words, where each line is a comment of a script. It knows no
-//! script, and any device.
+//! The history of a unit: the events of its trace, each with its cause, and the commands of its channel programs, replayed (the
+//! profile's CCW trace), each with its place on the medium. It knows no script and prints nothing.
 //!
-//! Tests: tests/cases/histories, samples/*.steps.
+//! A [`replay::Replay`] works on a copy of the device as mounted, and on copies of the areas as issued. It depends on the trace
+//! alone, so a run of any threads can be looked at step by step afterwards. [`Before`](before::Before) keeps what the place of a
+//! command depends on beside the device after it.
+//!
+//! Tests: tests/cases/histories, samples/*.steps, tests/places.py.
 #![tactic(auto)]
 
-mod characters;
+mod arrivals;
+mod attempt;
+mod before;
 mod command;
 mod commands;
 mod dcbs;
+mod disk;
 mod done;
 mod error;
 mod event;
 mod events;
-mod history;
-mod names;
 mod past;
-mod steps;
-mod words;
+mod place;
+mod printer;
+mod replay;
+mod tape;
 
-pub use characters::Text;
+pub use before::Placed;
 pub use command::{After, Broken, Command, Ending, Moved, Shown, Way};
 pub use commands::{CommandList, Commands, Next, Replayed};
 pub use dcbs::Dcbs;
 pub use error::HistoryError;
 pub use event::{Cause, Event, Told};
 pub use events::Events;
-pub use history::{kind_in_words, method_in_words, mode_in_words, write_history};
-pub use names::{NORMAL_END, SENSE, STATUS};
-pub use step_places::{Passed, Place, Placed, RecordPlace};
-pub use words::Count;
+pub use place::{Passed, Place, RecordPlace};

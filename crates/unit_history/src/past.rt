@@ -13,11 +13,11 @@ ghost use Rattle.unit_history.specs.Events.{turns};
 ghost use Rattle.unit_history.specs.Orderly.{ErrorFollows, IsAfter, IsPostedNext, Orderly, StartFollows};
 ghost use Rattle.unit_history.specs.PastTies.{ActiveIs, DoomsBy, IfNamed, IsActive, Knows, UnlessNamed, before, active_halted, halting_after, purged_by, room_past};
 
+use crate::arrivals::find_arrival;
 use crate::dcbs::Dcbs;
 use crate::event::Cause;
 use io_images::Code;
 use request_piece::{Issued, Name, Scope};
-use trace_replay::find_arrival;
 use unit_book::{Entry, Mode};
 
 /// The request that was started and not posted since.

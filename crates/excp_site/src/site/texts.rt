@@ -3,33 +3,42 @@
 ghost use Rattle.std.specs.Prelude.{◌≡◌, ◌<◌, ◌≤◌, ◌+◌, Some, drop, length, slice_get, take, IfErr, IfOk, OnErr, OnOk};
 ghost use Rattle.unit_world.specs.Sites.{OnPart};
 ghost use Rattle.excp_site.specs.Looks.{LineAt, LineRefused, RecordAt, RecordRefused, device_now};
-ghost use Rattle.excp_site.specs.Refusals.{HistoryRefused, NoRoomFor};
+ghost use Rattle.excp_site.specs.Refusals.{MakeRefused, NoRoomFor};
 
 use crate::refusal::Refusal;
 use crate::site::Site;
 use any_device::AnyDevice;
 use ckd_disk::{Records, Stored};
 use line_printer::PrintedLine;
-use unit_book::{DcbState, UnitBook};
-use unit_history::{Dcbs, write_history};
+use record_lines::{Part, write_unit};
+use run_record::UnitRecord;
 
 impl Site {
-    /// Makes the history of a unit, a line for each entry, and keeps it in place of what was made before. Returns how many bytes
-    /// it has.
+    /// Makes the record of a unit, as lines of JSON (docs/REPORT.md), with at most this many of its commands, and keeps it in place
+    /// of what was made before. Returns how many bytes it has.
     ///
     /// Errors: `NoUnit`, `NoMemory`. What was made before stays then.
-    pub fn make_history(&mut self, unit: u16) -> Result<usize, Refusal>
+    pub fn make_record(&mut self, unit: u16, most_steps: u64) -> Result<usize, Refusal>
         ensures len { IfOk result (λ len. len ≡ length self.new.made) }
         ensures unit { OnOk result (unit < length self.old.plain.units) }
-        ensures refused { IfErr result (HistoryRefused self.old.plain unit) }
+        ensures refused { IfErr result (MakeRefused self.old.plain unit) }
         ensures rest { self.new ≡ record self.old { made = self.new.made } }
         ensures err { OnErr result (self.new ≡ self.old) }
     {
         self.has_unit(unit)?;
-        let book = self.plain.book(unit);
+        let record = UnitRecord {
+            book: self.plain.book(unit),
+            faults: &[],
+            room: None,
+            places: None,
+        };
+        let part = if most_steps > 0 {
+            Part::Steps(most_steps)
+        } else {
+            Part::Events
+        };
         let mut text = Vec::new(self.alloc);
-        let mut open = Dcbs::new(self.alloc, opened(book))?;
-        if write_history(&mut text, usize::from(unit), book, None, &mut open).is_err() {
+        if write_unit(&mut text, self.alloc, usize::from(unit), &record, part).is_err() {
             return Err(Refusal::NoMemory);
         }
         let len = text.len();
@@ -109,16 +118,4 @@ fn at(records: Records<'_>, place: usize) -> Option<Stored<'_>>
         rest.next()?;
     }
     rest.next()
-}
-
-/// How many DCBs were opened.
-fn opened(book: &UnitBook<AnyDevice>) -> usize {
-    let mut count = 0;
-    for dcb in 1..=u16::MAX {
-        if book.dcb_state(dcb) == DcbState::Unknown {
-            break;
-        }
-        count = usize::from(dcb);
-    }
-    count
 }

@@ -1,0 +1,134 @@
+//! The lines of a medium, and of what lies on it.
+
+use crate::form::{OrNull, write_hex};
+use crate::track::Track;
+use any_device::AnyDevice;
+use ckd_disk::{Disk, Stored};
+use device_port::Device;
+use line_printer::{PrintedLine, Printer};
+use run_record::{Room, UnitRecord};
+use std::io;
+use std::io::Write;
+use tape_unit::Tape;
+
+/// Writes the medium of a unit as it is at the end of a run.
+pub(crate) fn write_medium<W: Write>(out: &mut W, unit: &UnitRecord<'_>) -> io::Result<()> {
+    match unit.book.device() {
+        AnyDevice::Disk(disk) => write_disk(out, disk),
+        AnyDevice::Tape(tape) => write_tape(out, tape, unit.room),
+        AnyDevice::Printer(printer) => write_printer(out, printer, unit.room),
+    }
+}
+
+/// Writes a disk: its size, and its records but the R0 that mounting puts on each track.
+fn write_disk<W: Write>(out: &mut W, disk: &Disk) -> io::Result<()> {
+    let (cylinders, heads) = (disk.cylinders(), disk.heads());
+    // each track has the length of the first
+    let bytes = if disk.tracks() == 0 {
+        0
+    } else {
+        disk.track_bytes(0)
+    };
+    writeln!(
+        out,
+        "{{\"what\":\"medium\",\"cylinders\":{cylinders},\"heads\":{heads},\"bytes\":{bytes}}}"
+    )?;
+    for cylinder in 0..cylinders {
+        write_cylinder(out, disk, cylinder)?;
+    }
+    Ok(())
+}
+
+fn write_cylinder<W: Write>(out: &mut W, disk: &Disk, cylinder: u16) -> io::Result<()> {
+    for head in 0..disk.heads() {
+        let track = Track { cylinder, head };
+        for (nth, record) in disk.records(cylinder, head).enumerate() {
+            if nth > 0 || !track.has_mounted(&record) {
+                write_record(out, track, nth, &record)?;
+            }
+        }
+    }
+    Ok(())
+}
+
+/// Writes a record, and its place on its track.
+fn write_record<W: Write>(
+    out: &mut W,
+    track: Track,
+    nth: usize,
+    record: &Stored<'_>,
+) -> io::Result<()> {
+    let Track { cylinder, head } = track;
+    write!(
+        out,
+        "{{\"what\":\"record\",\"cylinder\":{cylinder},\"head\":{head},\"nth\":{nth},\"id\":"
+    )?;
+    write_hex(out, record.id())?;
+    out.write_all(b",\"key\":")?;
+    write_hex(out, record.key())?;
+    out.write_all(b",\"data\":")?;
+    write_hex(out, record.content())?;
+    out.write_all(b"}\n")
+}
+
+/// Writes a tape: its size, how many items it has, after how many of them it is, and its items.
+fn write_tape<W: Write>(out: &mut W, tape: &Tape, room: Option<Room>) -> io::Result<()> {
+    let bytes = match room {
+        Some(Room::Tape { bytes }) => Some(bytes),
+        _ => None,
+    };
+    writeln!(
+        out,
+        "{{\"what\":\"medium\",\"bytes\":{},\"count\":{},\"place\":{}}}",
+        OrNull(bytes),
+        tape.len(),
+        tape.place()
+    )?;
+    for item in tape.items() {
+        write_item(out, item.block())?;
+    }
+    Ok(())
+}
+
+/// Writes an item: of a block its bytes, and null for a tape mark.
+fn write_item<W: Write>(out: &mut W, block: Option<&[u8]>) -> io::Result<()> {
+    out.write_all(b"{\"what\":\"item\",\"block\":")?;
+    match block {
+        Some(block) => write_hex(out, block)?,
+        None => out.write_all(b"null")?,
+    }
+    out.write_all(b"}\n")
+}
+
+/// Writes a printer: its size, where its paper is, and its lines.
+fn write_printer<W: Write>(out: &mut W, printer: &Printer, room: Option<Room>) -> io::Result<()> {
+    let (lines, pages) = match room {
+        Some(Room::Printer { lines, pages }) => (Some(lines), Some(pages)),
+        _ => (None, None),
+    };
+    let at = printer.position();
+    writeln!(
+        out,
+        "{{\"what\":\"medium\",\"lines\":{},\"pages\":{},\"page\":{},\"line\":{}}}",
+        OrNull(lines),
+        OrNull(pages),
+        at.page,
+        at.line
+    )?;
+    for line in printer.printed() {
+        write_line(out, line)?;
+    }
+    Ok(())
+}
+
+/// Writes a printed line: where it is, and its bytes.
+fn write_line<W: Write>(out: &mut W, line: &PrintedLine) -> io::Result<()> {
+    let at = line.position();
+    write!(
+        out,
+        "{{\"what\":\"line\",\"page\":{},\"line\":{},\"bytes\":",
+        at.page, at.line
+    )?;
+    write_hex(out, line.bytes())?;
+    out.write_all(b"}\n")
+}

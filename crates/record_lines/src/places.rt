@@ -1,0 +1,79 @@
+//! Where on its medium a command was.
+
+use crate::form::{Commas, write_hex};
+use std::io;
+use std::io::Write;
+use unit_history::{Passed, Place, RecordPlace};
+
+/// The most records of a track that are listed where a search found none.
+const MOST_PASSED: usize = 64;
+
+/// Writes the member of the place of a command.
+pub(crate) fn write_place<W: Write>(out: &mut W, place: &Place<'_>) -> io::Result<()> {
+    out.write_all(b",\"place\":{")?;
+    match place {
+        Place::Record(record) => write_record_place(out, record)?,
+        Place::NoRecord(passed) => write_passed(out, passed)?,
+        Place::Item(number) => write!(out, "\"item\":{number}")?,
+        Place::Line(at) => write!(out, "\"page\":{},\"line\":{}", at.page, at.line)?,
+    }
+    out.write_all(b"}")
+}
+
+/// Writes a record: its track, its number, its CCHHR if that is not of the track, its place on the track, and its key.
+fn write_record_place<W: Write>(out: &mut W, record: &RecordPlace<'_>) -> io::Result<()> {
+    let last = record.id.last().copied().unwrap_or(0);
+    write!(
+        out,
+        "\"cylinder\":{},\"head\":{},\"record\":{last}",
+        record.cylinder, record.head
+    )?;
+    if record.number().is_none() {
+        out.write_all(b",\"id\":")?;
+        write_hex(out, record.id)?;
+    }
+    write!(out, ",\"nth\":{}", record.nth)?;
+    if !record.key.is_empty() {
+        out.write_all(b",\"key\":")?;
+        write_hex(out, record.key)?;
+    }
+    match record.is_equal {
+        Some(is_equal) => write!(out, ",\"equal\":{is_equal}"),
+        None => Ok(()),
+    }
+}
+
+/// Writes where a search found no record: its track, how many records it passed, and the IDs or the keys of that track.
+fn write_passed<W: Write>(out: &mut W, passed: &Passed<'_>) -> io::Result<()> {
+    let name = if passed.by_key { "keys" } else { "ids" };
+    write!(
+        out,
+        "\"cylinder\":{},\"head\":{},\"passed\":{},\"{name}\":[",
+        passed.cylinder, passed.head, passed.passed
+    )?;
+    let more = write_compared(out, passed)?;
+    out.write_all(b"]")?;
+    if more > 0 {
+        write!(out, ",\"{name}_more\":{more}")?;
+    }
+    Ok(())
+}
+
+/// Writes the first IDs or keys of a track. Returns how many more there are.
+fn write_compared<W: Write>(out: &mut W, passed: &Passed<'_>) -> io::Result<usize> {
+    let mut commas = Commas::new();
+    let mut count: usize = 0;
+    for record in passed.disk.records(passed.cylinder, passed.head) {
+        let compared = if passed.by_key {
+            record.key()
+        } else {
+            record.id()
+        };
+        if count < MOST_PASSED {
+            commas.next(out)?;
+            write_hex(out, compared)?;
+        }
+        count = count.saturating_add(1);
+    }
+    Ok(count.saturating_sub(MOST_PASSED))
+}

@@ -1,2 +1,0 @@
--- Why a report is not written.
-pub mod Writing
