@@ -5,8 +5,8 @@ ghost use Rattle.std.specs.Fmt.{decimal};
 ghost use Rattle.script_words.specs.Text.{words};
 ghost use Rattle.job_media.specs.Sizes.{is_hyphen, leaves_disk, leaves_size, leaves_tape, numbers, size_of_line, sized, sized_line, text_with_sizes, with_blank};
 
-use digits::put_decimal;
 use medium_image::Size;
+use post_lines::put_decimal;
 use script_words::{Words, decimal_in, is_word};
 use std::alloc::{AllocError, Global};
 

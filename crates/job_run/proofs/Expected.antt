@@ -8,7 +8,7 @@ use Rattle.job_script.specs.declared.command.Command.{Command}
 use Rattle.job_script.specs.declared.command.Excp.{Excp as OneExcp}
 use Rattle.job_script.specs.Said.{ExcpSaid}
 use Rattle.job_script.specs.Views.{action_said, command_said, excp_said}
-use Rattle.post_slots.specs.Slots.{SlotState, expected}
+use Rattle.post_lines.specs.Slots.{SlotState, expected}
 use Rattle.job_run.specs.Filling.{expects}
 use Rattle.job_run.specs.Requests.{excp_to, excps}
 use Rattle.job_run.specs.Sending.{does_all}

@@ -1,7 +1,7 @@
 -- What the slots of a task hold, step by step.
 use Rattle.std.proofs.Common.{◌≡◌, List, [], ◌∷◌, ◌++◌, refl, sym, ap, ◌∙◌, append_assoc, append-nil}
 use Rattle.request_piece.specs.PostedState.{PostedState}
-use Rattle.post_slots.specs.Slots.{SlotState, filled, filled_by_all}
+use Rattle.post_lines.specs.Slots.{SlotState, filled, filled_by_all}
 use Rattle.job_run.specs.Filling.{FillsSlots}
 
 by_all-append : (xs ys : List PostedState) (slots : List (List SlotState)) →

@@ -2,8 +2,8 @@
 use Rattle.std.proofs.Common.{◌≡◌, ℕ, zero, suc, ◌+◌, ◌<◌, ◌==◌, Bool, true, false, if◌then◌else◌, Option, Some, None, List, [], ◌∷◌, refl, sym, ap, ◌∙◌, arith, inl, inr, ◌⊎◌}
 use Rattle.std.proofs.lemmas.Bool.Decides.{nat_tests}
 use Rattle.request_piece.specs.PostedState.{PostedState}
-use Rattle.post_slots.specs.declared.end.End.{End}
-use Rattle.post_slots.specs.Slots.{SlotState, change, change_from_1, filled_by, filled_slot, filled_unit}
+use Rattle.post_lines.specs.declared.end.End.{End}
+use Rattle.post_lines.specs.Slots.{SlotState, change, change_from_1, filled_by, filled_slot, filled_unit}
 use Rattle.job_run.specs.Printing.{first_numbered}
 
 -- the slots of a unit with these posts, one after another

@@ -6,7 +6,7 @@ use Rattle.any_device.specs.declared.device.AnyDevice.{AnyDevice}
 use Rattle.unit_book.specs.Book.{Book}
 use Rattle.request_piece.specs.PostedState.{PostedState}
 use Rattle.job_script.specs.Said.{CommandSaid, ExcpSaid}
-use Rattle.post_slots.specs.Slots.{SlotState, posted_end, shown_in, waiting_slot}
+use Rattle.post_lines.specs.Slots.{SlotState, posted_end, shown_in, waiting_slot}
 use Rattle.post_lines.specs.Lines.{post_line, units_text, slot_line, task_text, unit_text}
 use Rattle.job_run.specs.Filling.{slots_at}
 use Rattle.job_run.specs.Printing.{books_text, excp_text, excps_text, first_numbered, posts_for, run_text, tasks_text}

@@ -2,7 +2,7 @@
 use Rattle.std.proofs.lemmas.Bool.{eqb-true}
 use Rattle.std.proofs.lemmas.Bool.Decides.{nat_tests}
 use Rattle.std.proofs.Common.{◌≡◌, ◌≢◌, ◌<◌, ◌≤◌, ◌+◌, ◌==◌, ℕ, zero, suc, Bool, true, false, List, [], ◌∷◌, length, map, get_or, set, refl, sym, ap, ◌∙◌, arith}
-use Rattle.post_slots.specs.Slots.{SlotState}
+use Rattle.post_lines.specs.Slots.{SlotState}
 use Rattle.job_run.specs.Filling.{slots_at}
 
 pub set_there : {X : Type 0} (f : X → List (List SlotState)) (xs : List X) (k : ℕ) (y : X) → k < length xs →

@@ -5,7 +5,7 @@ use Rattle.std.proofs.lemmas.Bool.Decides.{nat_tests}
 use Rattle.request_piece.specs.PostedState.{PostedState}
 use Rattle.fifo_row.specs.Lists.{of}
 use Rattle.excp_system.specs.Sites.{unit_of}
-use Rattle.post_slots.specs.Slots.{SlotState, change, change_from_1, filled, filled_by_all, filled_slot, filled_unit}
+use Rattle.post_lines.specs.Slots.{SlotState, change, change_from_1, filled, filled_by_all, filled_slot, filled_unit}
 use Rattle.job_run.specs.Filling.{filled_at, listed_from}
 use Rattle.job_run.proofs.Firsts.{filled_all}
 

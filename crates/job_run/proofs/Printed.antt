@@ -19,7 +19,7 @@ use Rattle.system_threads.specs.Running.{Accounts}
 use Rattle.job_script.specs.declared.fault.JobError.{JobError}
 use Rattle.job_script.specs.Views.{said}
 use Rattle.job_script.specs.declared.script.Script.{Script}
-use Rattle.post_slots.specs.Slots.{SlotState, filled_by_all}
+use Rattle.post_lines.specs.Slots.{SlotState, filled_by_all}
 use Rattle.post_lines.specs.Lines.{task_text}
 use Rattle.job_run.specs.declared.run.Finished.{Finished}
 use Rattle.job_run.specs.declared.task_end.TaskEnd.{TaskEnd}

@@ -13,7 +13,7 @@ use Rattle.job_script.specs.declared.script.Script.{Script}
 use Rattle.post_lines.specs.Lines.{count_text}
 use Rattle.job_script.specs.declared.fault.JobError.{JobError}
 use Rattle.job_script.specs.declared.fault.JobError.TheVariants as faults
-use Rattle.digits.specs.Writing.{AppendsPart}
+use Rattle.post_lines.specs.Writing.{AppendsPart}
 use Rattle.job_run.specs.Ending.{EndsBy, EndsWriting, IsRunOf, PrintsPosts, WritesPart}
 use Rattle.job_run.specs.Printing.{excp_count, issues, posts_text, script_text}
 

@@ -14,7 +14,7 @@ use Rattle.job_run.specs.Beginning.{AreBegunWith}
 use Rattle.job_run.specs.Ran.{Ran}
 use Rattle.job_run.specs.Printing.{posts_text}
 use Rattle.std.specs.Io.KnownBytes.{Appends}
-use Rattle.digits.specs.Writing.{AppendsPart}
+use Rattle.post_lines.specs.Writing.{AppendsPart}
 use Rattle.job_run.specs.Requests.{excps}
 use Rattle.job_mount.specs.Mounting.{◌>>=◌, books_of, books_with}
 

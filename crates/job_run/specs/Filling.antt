@@ -3,7 +3,7 @@ use Rattle.std.specs.Prelude.{◌≡◌, ◌<◌, ◌+◌, ℕ, Result, Ok, Err,
 use Rattle.job_script.specs.declared.command.Action.{Action}
 use Rattle.job_script.specs.declared.command.Action.TheVariants.{Excp, Purge, PurgeTask, Close, Reset, Wait}
 use Rattle.job_script.specs.declared.script.Script.{Script}
-use Rattle.post_slots.specs.Slots.{SlotState, expected, filled, filled_by_all}
+use Rattle.post_lines.specs.Slots.{SlotState, expected, filled, filled_by_all}
 use Rattle.request_piece.specs.PostedState.{PostedState}
 use Rattle.post_ledger.specs.Work.{lists_of}
 use Rattle.excp_system.specs.States.{TaskState}

@@ -9,7 +9,7 @@ use Rattle.unit_book.specs.Posts.{posted}
 use Rattle.fifo_row.specs.Lists.{of}
 use Rattle.excp_system.specs.Sites.{for_task}
 use Rattle.job_script.specs.Said.{ActionSaid, CommandSaid, ExcpSaid, Said, excp}
-use Rattle.post_slots.specs.Slots.{SlotState, posted_end, shown_in, slots_of}
+use Rattle.post_lines.specs.Slots.{SlotState, posted_end, shown_in, slots_of}
 use Rattle.post_lines.specs.Lines.{count_text, post_line, task_text}
 use Rattle.job_run.specs.declared.task_end.TaskEnd.{TaskEnd}
 use Rattle.job_run.specs.Requests.{excps}

@@ -5,7 +5,7 @@ ghost use Rattle.excp_system.specs.Calls.{next_name};
 ghost use Rattle.excp_system.specs.States.{awaited_count};
 ghost use Rattle.job_mount.specs.Requests.{CanBeDone, CanIssue};
 ghost use Rattle.job_script.specs.Commands.{NamesUnits};
-ghost use Rattle.post_slots.specs.Slots.{slots_of};
+ghost use Rattle.post_lines.specs.Slots.{slots_of};
 ghost use Rattle.job_run.specs.Filling.{FillsSlots, slots_for};
 ghost use Rattle.job_run.specs.Sending.{EndsEarly, ExcpFails, Fails, StopsAt, sends, sends_all, sends_excp, sends_one};
 
@@ -20,7 +20,7 @@ use excp_system::{Opened, System};
 use fifo_row::Full;
 use job_mount::request;
 use job_script::{Action, Command, Excp, Script};
-use post_slots::Slots;
+use post_lines::Slots;
 use request_piece::{Posted, Request};
 use std::alloc::{AllocError, Global};
 use std::sync::Wait;

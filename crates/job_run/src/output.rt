@@ -3,7 +3,7 @@
 ghost use Rattle.std.specs.Prelude.{◌≡◌, ◌++◌, IfErr, OnErr, OnOk, length, map};
 ghost use Rattle.std.specs.Io.KnownBytes.{Appends};
 ghost use Rattle.std.specs.List.{filter};
-ghost use Rattle.digits.specs.Writing.{AppendsPart};
+ghost use Rattle.post_lines.specs.Writing.{AppendsPart};
 ghost use Rattle.job_script.specs.Commands.{is_excp};
 ghost use Rattle.post_lines.specs.Lines.{count_text};
 ghost use Rattle.job_run.specs.Printing.{ended_slots, tasks_text};

@@ -1,12 +1,12 @@
 //! What a task leaves when it has ended.
 
 ghost use Rattle.std.specs.Prelude.{◌≡◌, IfOk, OnOk};
-ghost use Rattle.post_slots.specs.Slots.{slots_of};
+ghost use Rattle.post_lines.specs.Slots.{slots_of};
 ghost use Rattle.job_run.specs.Filling.{expects, slots_for};
 
 use crate::notes::Notes;
 use job_script::{Action, Script};
-use post_slots::Slots;
+use post_lines::Slots;
 use std::alloc::{AllocError, Global};
 
 /// The posts of a task's requests, each in its slot, and what was noted beside them.

@@ -4,8 +4,7 @@
 use crate::answer::write_name;
 use any_device::AnyDevice;
 use job_scenario::mode_word;
-use post_lines::write_post;
-use post_slots::End;
+use post_lines::{End, write_post};
 use request_piece::{Name, Scope};
 use std::alloc::{AllocError, Global};
 use std::io::{Result as IoResult, Write};

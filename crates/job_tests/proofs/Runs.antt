@@ -3,7 +3,7 @@ use Rattle.std.proofs.Common.{◌≡◌, ℕ, List, [], ◌∷◌, refl}
 use Rattle.std.specs.Prelude.{codes}
 use Rattle.std.specs.Fmt.{digits}
 use Rattle.std.specs.List.{join_with_byte}
-use Rattle.digits.specs.Digits.{in_digits}
+use Rattle.post_lines.specs.Digits.{in_digits}
 use Rattle.ccw_programs.specs.Areas.{parts_from}
 use Rattle.ccw_programs.specs.Links.{chain_within}
 use Rattle.ccw_programs.specs.Step.{after, step, steps_within}

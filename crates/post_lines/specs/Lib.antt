@@ -1,2 +1,5 @@
--- The text of posts.
+-- The slots of requests, and the text of posts.
+pub mod Digits
 pub mod Lines
+pub mod Slots
+pub mod Writing

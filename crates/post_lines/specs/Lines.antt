@@ -2,10 +2,10 @@
 use Rattle.std.specs.Prelude.{ℕ, ◌+◌, Option, Some, None, List, [], ◌∷◌, ◌++◌, codes}
 use Rattle.std.specs.Fmt.{decimal}
 use Rattle.std.specs.Int.{bytes_high_first}
-use Rattle.digits.specs.Digits.{in_digits, shown_text}
+use Rattle.post_lines.specs.Digits.{in_digits, shown_text}
 use Rattle.io_images.specs.Codes.{code_byte}
-use Rattle.post_slots.specs.Slots.{SlotState}
-use Rattle.post_slots.specs.declared.end.End.{End}
+use Rattle.post_lines.specs.Slots.{SlotState}
+use Rattle.post_lines.specs.declared.end.End.{End}
 
 -- bytes in hexadecimal, and a blank
 abbrev pub field : List ℕ → List ℕ

@@ -2,13 +2,13 @@
 
 ghost use Rattle.std.specs.Prelude.{◌≡◌, ◌++◌, OnErr, OnOk, replicate};
 ghost use Rattle.std.specs.Io.KnownBytes.{Appends};
-ghost use Rattle.post_slots.specs.Slots.{posted_end};
+ghost use Rattle.post_lines.specs.Slots.{posted_end};
 ghost use Rattle.post_lines.specs.Lines.{end_text, head_text, post_text};
-ghost use Rattle.digits.specs.Digits.{shown_text};
-ghost use Rattle.digits.specs.Writing.{AppendsPart};
+ghost use Rattle.post_lines.specs.Digits.{shown_text};
+ghost use Rattle.post_lines.specs.Writing.{AppendsPart};
 
-use digits::{put_decimal, put_digits, write_bytes, write_text};
-use post_slots::End;
+use crate::end::End;
+use crate::writing::{put_decimal, put_digits, write_bytes, write_text};
 use request_piece::{Name, Posted};
 use std::io;
 use std::io::Write;

@@ -2,13 +2,14 @@
 
 ghost use Rattle.std.specs.Prelude.{◌≡◌, OnErr, OnOk, map};
 ghost use Rattle.std.specs.Io.KnownBytes.{Appends};
-ghost use Rattle.digits.specs.Writing.{AppendsPart};
-ghost use Rattle.post_slots.specs.Slots.{shown_in, slot_of, slots_of};
+ghost use Rattle.post_lines.specs.Writing.{AppendsPart};
+ghost use Rattle.post_lines.specs.Slots.{shown_in, slot_of, slots_of};
 ghost use Rattle.post_lines.specs.Lines.{count_text, slot_line, task_text, unit_text};
 
 use crate::post::write_post;
-use digits::{put_decimal, write_text};
-use post_slots::{Slot, Slots};
+use crate::slot::Slot;
+use crate::slots::Slots;
+use crate::writing::{put_decimal, write_text};
 use request_piece::Posted;
 use std::io;
 use std::io::Write;

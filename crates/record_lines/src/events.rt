@@ -3,7 +3,7 @@
 use crate::form::{Commas, OrNull, write_hex};
 use crate::posts::write_end;
 use io_images::Extent;
-use post_slots::End;
+use post_lines::End;
 use request_piece::{Issued, Name, Scope};
 use std::io;
 use std::io::Write;

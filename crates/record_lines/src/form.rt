@@ -1,6 +1,6 @@
 //! Pieces of JSON: lists, and bytes in hexadecimal.
 
-use digits::write_bytes;
+use post_lines::write_bytes;
 use std::io::Write;
 use std::{fmt, io};
 

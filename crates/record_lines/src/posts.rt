@@ -1,8 +1,7 @@
 //! The lines of the posts of a run, and of what its tasks did.
 
 use crate::form::write_hex;
-use digits::digits_of;
-use post_slots::End;
+use post_lines::{End, digits_of};
 use run_record::{Ended, TaskEvent, TaskRecord};
 use std::io;
 use std::io::Write;

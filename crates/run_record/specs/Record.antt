@@ -1,8 +1,8 @@
 -- THE RECORD OF A TASK: what it holds, and what is noted in it (profile).
 use Rattle.std.specs.Prelude.{◌≡◌, ◌<◌, ℕ, ◌-◌, Option, Some, None, List, [], ◌∷◌, ◌++◌, ◌⊎◌, slice_get, take, vec_len}
 use Rattle.std.specs.Option.{option_map_or}
-use Rattle.post_slots.specs.Slots.{SlotState, slot_at, slot_of, slots_of}
-use Rattle.post_slots.specs.declared.slot.Slot.{Slot}
+use Rattle.post_lines.specs.Slots.{SlotState, slot_at, slot_of, slots_of}
+use Rattle.post_lines.specs.declared.slot.Slot.{Slot}
 use Rattle.run_record.specs.declared.task_event.TaskEvent.{TaskEvent}
 use Rattle.run_record.specs.declared.task_notes.TaskNotes.{TaskNotes}
 use Rattle.run_record.specs.declared.task_record.Ended.{Ended}

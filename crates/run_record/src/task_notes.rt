@@ -2,10 +2,10 @@
 
 ghost use Rattle.std.specs.Prelude.{◌≡◌, ◌+◌, ◌≤◌, [], IfOk, OnErr, OnOk, replicate, vec_len};
 ghost use Rattle.std.specs.Option.{option_copied};
-ghost use Rattle.post_slots.specs.Slots.{expected, filled};
+ghost use Rattle.post_lines.specs.Slots.{expected, filled};
 
 use crate::task_event::TaskEvent;
-use post_slots::{Slot, Slots};
+use post_lines::{Slot, Slots};
 use request_piece::Posted;
 use std::alloc::{AllocError, Global};
 

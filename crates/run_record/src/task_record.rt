@@ -1,12 +1,12 @@
 //! The record of a task.
 
 ghost use Rattle.std.specs.Prelude.{◌≡◌, [], IfOk, replicate};
-ghost use Rattle.post_slots.specs.Slots.{filled, slots_of};
+ghost use Rattle.post_lines.specs.Slots.{filled, slots_of};
 ghost use Rattle.run_record.specs.Record.{EndsAs, KeepsEvents, NotesEvent, events_of, iobs_of, requests_to};
 
 use crate::task_event::TaskEvent;
 use crate::task_notes::TaskNotes;
-use post_slots::{End, Slot, Slots};
+use post_lines::{End, Slot, Slots};
 use request_piece::Posted;
 use std::alloc::{AllocError, Global};
 

@@ -4,3 +4,4 @@ pub mod Numbers
 pub mod Scanning
 pub mod Scans
 pub mod Spelling
+pub mod Table

@@ -4,7 +4,7 @@ ghost use Rattle.std.specs.Prelude.{◌≡◌, ◌<◌, ◌≤◌, ◌^◌, Some
 ghost use Rattle.script_words.specs.Forms.{Leaves, ReturnsForm, put_after, decimal, decimal_in, hex_bytes, hexadecimal, pairs, sized_pairs};
 ghost use Rattle.script_words.specs.declared.forms.FormError.TheVariants as form_errors;
 
-use digits::digit;
+use crate::value::digit;
 use std::alloc::{AllocError, AllocFailed, Global};
 
 /// Why the bytes of a word were not added.

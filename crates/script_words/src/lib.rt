@@ -8,6 +8,7 @@
 
 mod forms;
 mod text;
+mod value;
 mod words;
 
 pub use forms::{

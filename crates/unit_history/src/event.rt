@@ -1,7 +1,7 @@
 //! What a history tells of an entry.
 
 use io_images::Extent;
-use post_slots::End;
+use post_lines::End;
 use request_piece::{Issued, Name, Scope};
 use unit_book::{Mode, ProcessingMethod};
 

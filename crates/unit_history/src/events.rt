@@ -11,7 +11,7 @@ use crate::dcbs::Dcbs;
 use crate::event::{Event, Told};
 use crate::past::Past;
 use device_port::Device;
-use post_slots::End;
+use post_lines::End;
 use request_piece::Name;
 use std::marker::Model;
 use unit_book::{Entry, UnitBook};

@@ -2,9 +2,9 @@ use Rattle.std.proofs.Common.{◌≡◌, ◌≤◌, ◌+◌, ℕ, List, [], leng
 use Rattle.std.proofs.KnownBytes.{Appends-kept, Appends-trans}
 use Rattle.std.proofs.lemmas.List.{length-map}
 use Rattle.std.specs.Io.KnownBytes.{Appends}
-use Rattle.digits.specs.Writing.{AppendsPart}
-use Rattle.digits.proofs.Putting.{if-failed, part-after, part-before, part-more, part-whole, wrote-all, wrote-more}
-use Rattle.post_slots.specs.Slots.{SlotState}
+use Rattle.post_lines.specs.Writing.{AppendsPart}
+use Rattle.post_lines.proofs.Putting.{if-failed, part-after, part-before, part-more, part-whole, wrote-all, wrote-more}
+use Rattle.post_lines.specs.Slots.{SlotState}
 use Rattle.post_lines.specs.Lines.{count_text, task_text}
 use Rattle.post_lines.proofs.Left.{next_of}
 use Rattle.job_run.specs.Printing.{ended_slots, tasks_text}

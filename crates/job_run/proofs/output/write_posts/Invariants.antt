@@ -1,5 +1,5 @@
 use Rattle.std.proofs.Common.{drop, map}
-use Rattle.digits.specs.Writing.{Wrote}
+use Rattle.post_lines.specs.Writing.{Wrote}
 use Rattle.job_run.specs.Printing.{ended_slots, tasks_text}
 use Rattle.job_run.proofs.output.write_posts.Given as goal
 

@@ -1,6 +1,6 @@
 use Rattle.std.proofs.Common.{◌≡◌, ◌<◌, ℕ, List, get_or, length, ap, ◌∙◌, arith}
 use Rattle.std.proofs.lemmas.List.{length-set}
-use Rattle.post_slots.specs.Slots.{SlotState}
+use Rattle.post_lines.specs.Slots.{SlotState}
 use Rattle.job_run.specs.Filling.{listed_from}
 use Rattle.post_ledger.specs.Work.{lists_of}
 use Rattle.job_run.specs.Printing.{ended_slots}

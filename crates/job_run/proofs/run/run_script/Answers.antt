@@ -2,7 +2,7 @@ use Rattle.std.proofs.Common.{◌++◌, List, ap, length, map, ◌∙◌}
 use Rattle.std.proofs.lemmas.Result.{on_err_weaker, on_ok_weaker}
 use Rattle.std.specs.Io.KnownBytes.{Appends}
 use Rattle.std.specs.List.{filter}
-use Rattle.digits.specs.Writing.{AppendsPart}
+use Rattle.post_lines.specs.Writing.{AppendsPart}
 use Rattle.job_script.specs.Commands.{is_excp}
 use Rattle.post_lines.specs.Lines.{count_text}
 use Rattle.job_run.specs.Printing.{ended_slots, tasks_text}

@@ -1,7 +1,7 @@
 use Rattle.std.proofs.Common.{◌+◌, [], drop, refl, replicate}
 use Rattle.std.specs.Prelude.{vec_len}
 use Rattle.job_script.specs.Tasks.{places_of}
-use Rattle.post_slots.specs.Slots.{slots_of}
+use Rattle.post_lines.specs.Slots.{slots_of}
 use Rattle.job_run.specs.Filling.{expects}
 use Rattle.job_run.proofs.Walk.{at_place, begins, ends, goes_on}
 use Rattle.job_run.proofs.task_end.slots_of_task.Goals as goal

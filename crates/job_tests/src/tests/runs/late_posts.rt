@@ -7,7 +7,7 @@ use any_device::AnyDevice;
 use excp_system::{Opened, System};
 use job_run::{Job, TaskEnd, TaskError};
 use job_script::Script;
-use post_slots::Slots;
+use post_lines::Slots;
 use std::alloc::{AllocError, Global};
 use std::sync::Wait;
 use system_threads::{Alarm, Client, TaskProgram};

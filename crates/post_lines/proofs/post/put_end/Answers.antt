@@ -1,5 +1,5 @@
 use Rattle.std.proofs.Common.{refl}
-use Rattle.digits.specs.Digits.{in_digits}
+use Rattle.post_lines.specs.Digits.{in_digits}
 use Rattle.post_lines.proofs.post.put_end.Goals as goal
 
 pub returns : goal.returns

@@ -2,7 +2,7 @@ use Rattle.std.proofs.Common.{rules, ◌≡◌, ◌≤◌, ◌-◌, ◌+◌, ◌
 use Rattle.std.specs.Fmt.{decimal}
 use Rattle.std.specs.Prelude.{OnErr, OnOk, codes}
 use Rattle.std.specs.Io.KnownBytes.{Appends}
-use Rattle.digits.specs.Writing.{AppendsPart}
+use Rattle.post_lines.specs.Writing.{AppendsPart}
 use Rattle.post_lines.specs.Lines.{end_text}
 use Rattle.post_lines.proofs.Blank.{Blank, blank_one, blank_put, begun, from_end}
 use Rattle.post_lines.proofs.post.write_head.Goals as goal

@@ -2,10 +2,10 @@ use Rattle.std.proofs.Common.{List, ℕ, ap, subst, ◌∙◌}
 use Rattle.std.proofs.KnownBytes.{Appends-trans}
 use Rattle.std.proofs.lemmas.Result.{on_err_weaker, on_ok_weaker}
 use Rattle.std.specs.Io.KnownBytes.{Appends}
-use Rattle.digits.specs.Digits.{shown_text}
-use Rattle.digits.specs.Writing.{AppendsPart}
-use Rattle.digits.proofs.Putting.{if-failed, part-after, part-before}
-use Rattle.post_slots.specs.Slots.{posted_end}
+use Rattle.post_lines.specs.Digits.{shown_text}
+use Rattle.post_lines.specs.Writing.{AppendsPart}
+use Rattle.post_lines.proofs.Putting.{if-failed, part-after, part-before}
+use Rattle.post_lines.specs.Slots.{posted_end}
 use Rattle.post_lines.specs.Lines.{end_text}
 use Rattle.post_lines.proofs.post.write_outcome.Goals as goal
 

@@ -2,8 +2,8 @@ use Rattle.std.proofs.Common.{◌≤◌, ◌-◌, OnErr, [], ◌∷◌, ◌++◌
 use Rattle.std.specs.Fmt.{decimal}
 use Rattle.std.proofs.lemmas.List.{length-append, take_all}
 use Rattle.std.proofs.lemmas.Result.{on_err_weaker}
-use Rattle.digits.specs.Writing.{AppendsPart}
-use Rattle.digits.proofs.Putting.{if-failed, part-after, part-before}
+use Rattle.post_lines.specs.Writing.{AppendsPart}
+use Rattle.post_lines.proofs.Putting.{if-failed, part-after, part-before}
 use Rattle.post_lines.proofs.posts.write_count.Goals as goal
 
 pub returns-in_err-write_text-clause-part : goal.returns-in_err-write_text-clause-part

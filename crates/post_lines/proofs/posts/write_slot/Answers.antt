@@ -2,10 +2,10 @@ use Rattle.std.proofs.Common.{◌≡◌, List, ℕ, [], ◌∷◌, Some, refl, s
 use Rattle.std.proofs.KnownBytes.{Appends-trans}
 use Rattle.std.proofs.lemmas.Result.{on_err_weaker, on_ok_weaker}
 use Rattle.std.specs.Io.KnownBytes.{Appends}
-use Rattle.digits.specs.Writing.{AppendsPart}
-use Rattle.digits.proofs.Putting.{if-failed, part-after, part-before}
-use Rattle.post_slots.specs.Slots.{SlotState, slot_of}
-use Rattle.post_slots.specs.declared.end.End.{End}
+use Rattle.post_lines.specs.Writing.{AppendsPart}
+use Rattle.post_lines.proofs.Putting.{if-failed, part-after, part-before}
+use Rattle.post_lines.specs.Slots.{SlotState, slot_of}
+use Rattle.post_lines.specs.declared.end.End.{End}
 use Rattle.post_lines.specs.Lines.{post_line, post_text, slot_line}
 use Rattle.post_lines.proofs.posts.write_slot.Goals as goal
 

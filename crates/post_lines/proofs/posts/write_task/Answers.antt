@@ -1,7 +1,7 @@
 use Rattle.std.proofs.Common.{◌≡◌, ◌<◌, ◌+◌, ◌∷◌, Global, List, Vec, drop, length, map, ap, rules, ◌∙◌, sym}
-use Rattle.digits.proofs.Putting.{if-failed, part-more, wrote-more}
-use Rattle.post_slots.specs.Slots.{SlotState, slot_of}
-use Rattle.post_slots.specs.declared.slot.Slot.{Slot}
+use Rattle.post_lines.proofs.Putting.{if-failed, part-more, wrote-more}
+use Rattle.post_lines.specs.Slots.{SlotState, slot_of}
+use Rattle.post_lines.specs.declared.slot.Slot.{Slot}
 use Rattle.post_lines.specs.Lines.{unit_text, units_text}
 use Rattle.post_lines.proofs.Left.{next_of}
 use Rattle.post_lines.proofs.posts.write_task.Goals as goal

@@ -1,6 +1,6 @@
 use Rattle.std.proofs.Common.{drop}
-use Rattle.digits.specs.Writing.{Wrote}
-use Rattle.post_slots.specs.Slots.{slots_of}
+use Rattle.post_lines.specs.Writing.{Wrote}
+use Rattle.post_lines.specs.Slots.{slots_of}
 use Rattle.post_lines.specs.Lines.{task_text, units_text}
 use Rattle.post_lines.proofs.posts.write_task.Given as goal
 

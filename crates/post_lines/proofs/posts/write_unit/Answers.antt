@@ -1,6 +1,6 @@
 use Rattle.std.proofs.Common.{◌+◌, List, drop, map, ap}
-use Rattle.digits.proofs.Putting.{if-failed, part-more, wrote-more}
-use Rattle.post_slots.specs.Slots.{SlotState, slot_of}
+use Rattle.post_lines.proofs.Putting.{if-failed, part-more, wrote-more}
+use Rattle.post_lines.specs.Slots.{SlotState, slot_of}
 use Rattle.post_lines.specs.Lines.{slot_line, unit_text}
 use Rattle.post_lines.proofs.Left.{next_of}
 use Rattle.post_lines.proofs.posts.write_unit.Goals as goal

@@ -1,6 +1,6 @@
 use Rattle.std.proofs.Common.{◌+◌, drop, map}
-use Rattle.digits.specs.Writing.{Wrote}
-use Rattle.post_slots.specs.Slots.{slot_of}
+use Rattle.post_lines.specs.Writing.{Wrote}
+use Rattle.post_lines.specs.Slots.{slot_of}
 use Rattle.post_lines.specs.Lines.{unit_text}
 use Rattle.post_lines.proofs.posts.write_unit.Given as goal
 

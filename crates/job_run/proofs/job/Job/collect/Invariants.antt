@@ -1,5 +1,5 @@
 use Rattle.std.proofs.Common.{◌≡◌}
-use Rattle.post_slots.specs.Slots.{slots_of}
+use Rattle.post_lines.specs.Slots.{slots_of}
 use Rattle.job_run.specs.Filling.{FillsSlots}
 use Rattle.job_run.proofs.job.Job.collect.Given as goal
 

@@ -1,6 +1,6 @@
 use Rattle.std.proofs.Common.{◌≡◌, drop}
 use Rattle.job_script.specs.Tasks.{places_of}
-use Rattle.post_slots.specs.Slots.{slots_of}
+use Rattle.post_lines.specs.Slots.{slots_of}
 use Rattle.job_run.specs.Filling.{FillsSlots}
 use Rattle.job_run.specs.Sending.{sends}
 use Rattle.job_run.proofs.Walk.{Reached}

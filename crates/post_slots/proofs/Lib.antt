@@ -1,2 +1,0 @@
--- Lists that are changed at a place.
-pub mod Changes
