@@ -115,7 +115,7 @@ CALLS = {
     "waiting": "u16 u32 ref ref",
     "read_record": "u16 u16 u16 u32 ref buffer",
     "printed_line": "u16 u32 ref buffer",
-    "make_history": "u16 ref",
+    "make_record": "u16 u64 ref",
     "make_image": "u16 ref",
     "made_length": "ref",
     "copy_out": "size buffer",

@@ -258,7 +258,7 @@ static excp_status made_call(excp_site *site, written *to)
         return excp_read_record(site, unit, (uint16_t)number(2), (uint16_t)number(2), place, pointer(&to->record), bytes_at(to->bytes, room),
                                 room);
     case 33: return excp_printed_line(site, unit, place, pointer(&to->line), bytes_at(to->bytes, room), room);
-    case 34: return excp_make_history(site, unit, pointer(&to->length));
+    case 34: return excp_make_record(site, unit, place, pointer(&to->length));
     case 35: return excp_make_image(site, unit, pointer(&to->length));
     case 36: return excp_made_length(site, pointer(&to->length));
     default: return chance(2) ? excp_copy_out(site, from, bytes_at(to->bytes, room), room) : excp_checkpoint(site, unit);

@@ -172,10 +172,10 @@ static int call(excp_site *site, int number, written *to, int *kind)
     case 38: return excp_reset(site, 1, 1);
     case 39: return excp_close(site, 0, 2, &to->answer);
     case 40: return issue(site, 0, 2, 1, 0, to);
-    case 41: return excp_make_history(site, 0, &to->length);
-    case 42: return excp_make_history(site, 1, &to->length);
-    case 43: return excp_make_history(site, 0, &to->length);
-    case 44: return excp_make_history(site, 2, &to->length);
+    case 41: return excp_make_record(site, 0, 0, &to->length);
+    case 42: return excp_make_record(site, 1, 5, &to->length);
+    case 43: return excp_make_record(site, 0, UINT64_MAX, &to->length);
+    case 44: return excp_make_record(site, 2, 1, &to->length);
     case 45: return excp_next_post(site, 0, &to->post, to->storage, sizeof to->storage);
     case 46: return excp_next_post(site, 0, &to->post, to->storage, sizeof to->storage);
     case 47: return excp_next_post(site, 0, &to->post, to->storage, sizeof to->storage);

@@ -72,7 +72,7 @@ static uint64_t seen_medium(excp_site *site, uint16_t unit, uint64_t sum)
     return sum;
 }
 
-static uint64_t seen_unit(excp_site *site, uint16_t unit, const excp_unit_state *state, int has_history, uint64_t sum)
+static uint64_t seen_unit(excp_site *site, uint16_t unit, const excp_unit_state *state, int has_record, uint64_t sum)
 {
     excp_dcb_state look;
     size_t length;
@@ -90,20 +90,20 @@ static uint64_t seen_unit(excp_site *site, uint16_t unit, const excp_unit_state 
         sum = mixed_number(mixed_number(sum, task), number);
     }
     sum = seen_medium(site, unit, sum);
-    if (has_history && excp_make_history(site, unit, &length) == EXCP_OK)
+    if (has_record && excp_make_record(site, unit, 0, &length) == EXCP_OK)
         sum = take_made(site, length, sum);
     return sum;
 }
 
-/* All that can be seen of a site: its units with their media, their histories if wanted, and the first post of each of some tasks. */
-static uint64_t seen(excp_site *site, int has_history)
+/* All that can be seen of a site: its units with their media, their records if wanted, and the first post of each of some tasks. */
+static uint64_t seen(excp_site *site, int has_record)
 {
     uint64_t sum = 14695981039346656037u;
     excp_unit_state state;
     excp_post post;
     kept_length = 0;
     for (uint32_t unit = 0; unit <= UINT16_MAX && excp_look(site, (uint16_t)unit, &state) == EXCP_OK; unit++)
-        sum = seen_unit(site, (uint16_t)unit, &state, has_history, sum);
+        sum = seen_unit(site, (uint16_t)unit, &state, has_record, sum);
     for (uint16_t task = 0; task < 4; task++) {
         sum = mixed_number(sum, excp_peek_post(site, task, memset(&post, 0, sizeof post)));
         sum = mixed_number(sum, post.number);

@@ -207,7 +207,7 @@ static void call_others(excp_site *site)
     GUARDED(excp_site, handle);
     size_t length = 0;
     uint8_t text[1];
-    OK(excp_make_history(site, 2, &length));
+    OK(excp_make_record(site, 2, 100, &length));
     EXPECT(length > 0);
     OK(excp_copy_out(site, length - 1, text, 1));
     EXPECT(text[0] == '\n');

@@ -104,8 +104,8 @@ static void refuse_null(void)
     NO_POINTER(excp_printed_line(NULL, 0, 0, &line, buffer, 16));
     NO_POINTER(excp_printed_line(&site, 0, 0, NULL, buffer, 16));
     NO_POINTER(excp_printed_line(&site, 0, 0, &line, NULL, 16));
-    NO_POINTER(excp_make_history(NULL, 0, &length));
-    NO_POINTER(excp_make_history(&site, 0, NULL));
+    NO_POINTER(excp_make_record(NULL, 0, 0, &length));
+    NO_POINTER(excp_make_record(&site, 0, 0, NULL));
     NO_POINTER(excp_make_image(NULL, 0, &length));
     NO_POINTER(excp_make_image(&site, 0, NULL));
     NO_POINTER(excp_made_length(NULL, &length));
@@ -148,7 +148,7 @@ static void refuse_all(excp_status status)
     GIVES(status, excp_waiting(&site, 0, 0, &number16, &number64));
     GIVES(status, excp_read_record(&site, 0, 0, 0, 0, &record, NULL, 0));
     GIVES(status, excp_printed_line(&site, 0, 0, &line, NULL, 0));
-    GIVES(status, excp_make_history(&site, 0, &length));
+    GIVES(status, excp_make_record(&site, 0, 1, &length));
     GIVES(status, excp_make_image(&site, 0, &length));
     GIVES(status, excp_made_length(&site, &length));
     GIVES(status, excp_copy_out(&site, 0, NULL, 0));
