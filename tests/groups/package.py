@@ -149,17 +149,19 @@ def needs_no_library():
     require((ran.stdout, ran.stderr) == (b"\n", b""), f"another output: {ran.stdout!r} {ran.stderr!r}")
 
 
-def has_all_commands():
-    """The table of commands that reports have, in Rattle, has those of the package, and no other."""
-    from excp.device_commands import DEVICE_COMMANDS
+def imported(tree):
+    """The names that a module imports, but for those that it gives to others by `name as name`."""
+    names = [it for node in ast.walk(tree) if isinstance(node, (ast.Import, ast.ImportFrom)) for it in node.names]
+    return {(it.asname or it.name).partition(".")[0] for it in names if it.asname != it.name} - {"annotations"}
 
-    device, rows = "", set()
-    with open(f"{TOP}/crates/command_table/src/commands.rt", encoding="utf-8") as it:
-        for name, mnemonic, code, words in re.findall(r'static (\w+):|\("(\w+)", 0x(\w\w), "([^"]*)"\)', it.read()):
-            device = {"COMMON": "any"}.get(name, name.lower()) if name else device
-            rows |= {(device, mnemonic, int(code, 16), words)} if mnemonic else set()
-    due = {(it.device, it.mnemonic, it.code, it.words) for it in DEVICE_COMMANDS}
-    require(rows == due, f"not in both: {sorted(rows ^ due)}")
+
+def has_statuses():
+    """The statuses by which excp_tools leaves to the package what is to be said are those of the package."""
+    from excp.command.tool_run import Status
+
+    with open(f"{TOP}/crates/excp_tools/src/main.rt", encoding="utf-8") as it:
+        found = {name: int(number) for name, number in re.findall(r"^const (\w+): u8 = (\d+);", it.read(), re.M) if int(number) > 6}
+    require(found == {it.name: it.value for it in Status}, f"the program has {found}")
 
 
 def has_form(file):
@@ -171,6 +173,8 @@ def has_form(file):
     require(len(lines) <= MODULE_LINES, f"{len(lines)} lines: at most {MODULE_LINES}")
     long = [number for number, line in enumerate(lines, 1) if len(line) > COLUMNS]
     require(not long, f"lines {long}: more than {COLUMNS} columns")
+    unused = imported(tree) - {node.id for node in ast.walk(tree) if isinstance(node, ast.Name)}
+    require(os.path.basename(file) == "__init__.py" or not unused, f"imported, and not used: {sorted(unused)}")
     for node in ast.walk(tree):
         if isinstance(node, ast.FunctionDef):
             count = node.end_lineno - node.lineno + 1
@@ -187,7 +191,7 @@ def cases(setup):
         yield Case(f"{' '.join(words)} of a program", lambda w=words: is_one_line(setup, *w), ORIGIN)
     for word, due in ("chek", "did you mean 'check'?"), ("xyzzy", "excp --help lists them"):
         yield Case(f"a word that is none: {word}", lambda w=word, d=due: suggests(w, d), ORIGIN)
-    yield Case("the commands of reports", has_all_commands, "docs/SPECIFICATION.md, the tables of commands")
+    yield Case("the statuses of excp_tools", has_statuses, "crates/excp_tools/src/main.rt")
     yield Case("a word needs no library", needs_no_library, "python/excp/__init__.py")
     for file in sorted(glob.glob(f"{TOP}/python/excp/**/*.py", recursive=True)):
         yield Case(f"the form of {os.path.relpath(file, f'{TOP}/python')}", lambda f=file: has_form(f), FORM)

@@ -14,7 +14,7 @@ from ..findings import Finding
 from ..script.limits import MOST_SCRIPT_BYTES
 from .handing import handed
 from .streams import FAILED, Ended
-from .units import DeclaredUnit, units_of
+from .units import UnitKind, units_of
 from .whole_script import ending_faults
 
 _AT_A_TIME = 1 << 16
@@ -29,7 +29,7 @@ class Dialog:
         self._copy = bytearray()
         self._is_unreadable = False
 
-    def units(self) -> Optional[Sequence[DeclaredUnit]]:
+    def units(self) -> Optional[Sequence[UnitKind]]:
         """The units that were declared so far, once a line was read."""
         return units_of(self._copy) if self._copy else None
 

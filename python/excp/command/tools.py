@@ -14,7 +14,7 @@ from ..findings import Finding
 from .handing import name_in_texts
 from .options import unit_files
 from .streams import name_of
-from .units import DeclaredUnit
+from .units import UnitKind
 
 
 class Source(Protocol):
@@ -24,7 +24,7 @@ class Source(Protocol):
     def file(self) -> Optional[str]:
         """The name of its file; None for standard input."""
 
-    def units(self) -> Optional[Sequence[DeclaredUnit]]:
+    def units(self) -> Optional[Sequence[UnitKind]]:
         """Its units, if they are known."""
 
     def opened(self) -> ContextManager[Union[int, BinaryIO]]:

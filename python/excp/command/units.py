@@ -19,7 +19,7 @@ _EVENTS = {*COMMAND_WORDS, *EVENT_WORDS} - {"room"}
 _CONTENTS = {DISK: targets.DISK, TAPE: targets.TAPE, PRINTER: targets.TEXT}
 
 
-class DeclaredUnit(NamedTuple):
+class UnitKind(NamedTuple):
     """A unit: the kind of its device, and its line if that has the size of a disk."""
 
     kind: str
@@ -31,16 +31,16 @@ class DeclaredUnit(NamedTuple):
         return _CONTENTS[self.kind]
 
 
-def units_of(script: bytes) -> Sequence[DeclaredUnit]:
+def units_of(script: bytes) -> Sequence[UnitKind]:
     """The units of a plain script or scenario, by their numbers. Whether a line is at fault, the
     program says."""
-    units: List[DeclaredUnit] = []
+    units: List[UnitKind] = []
     for number, line in enumerate(lines_of(script), 1):
         text = Text(line)
         if text.first in _EVENTS:
             break
         if text.first in _CONTENTS:
-            units.append(DeclaredUnit(text.first, _disk_of(number, text)))
+            units.append(UnitKind(text.first, _disk_of(number, text)))
     return units
 
 
@@ -54,7 +54,7 @@ def _disk_of(number: int, text: Text) -> Optional[Disk]:
 
 
 def check_fit(
-    units: Sequence[DeclaredUnit], loads: Mapping[int, str], saves: Mapping[int, str]
+    units: Sequence[UnitKind], loads: Mapping[int, str], saves: Mapping[int, str]
 ) -> None:
     """Raises Ended if a unit of a file is not declared, and Unwritten if a disk that is to be saved
     has no model, which one from an image needs not."""

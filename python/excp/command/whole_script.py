@@ -13,7 +13,7 @@ from .run import in_memory
 from .script_file import read_plain, worth_printing
 from .streams import ERRORS, name_of
 from .unit_files import load_images
-from .units import DeclaredUnit, units_of
+from .units import UnitKind, units_of
 
 _OF_UNITS = (FaultName.MEDIUM, FaultName.EXTENT)
 
@@ -29,7 +29,7 @@ class WholeScript:
     script: Assembled
     check: Check
 
-    def units(self) -> Optional[Sequence[DeclaredUnit]]:
+    def units(self) -> Optional[Sequence[UnitKind]]:
         """The units that it declares."""
         return units_of(self.script.script)
 

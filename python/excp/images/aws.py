@@ -26,9 +26,7 @@ KNOWN_FLAGS = "40, A0, 80, 00 or 20; of compressed data A1, 81, 01, 21, A2, 82, 
 LONGEST_BLOCK = 65_535
 LONGEST_TAPE = 1 << 32
 
-# The most bytes of a chunk, and the level of zlib, in an image that Hercules makes (hetlib.h,
-# HETDFLT_CHKSIZE, HETDFLT_LEVEL).
-LONGEST_CHUNK = 65_535
+# The level of zlib in an image that Hercules makes (hetlib.h, HETDFLT_LEVEL).
 HET_LEVEL = 4
 
 # The bytes of the header of a FakeTape file, in hexadecimal digits.

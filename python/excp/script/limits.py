@@ -3,7 +3,6 @@ names say something else."""
 
 MOST_SCRIPT_BYTES = 1_048_576
 MOST_TASKS = 64
-MOST_UNITS = 64
 MOST_DCBS = 65_535
 MOST_EXTENTS = 16
 
