@@ -21,7 +21,7 @@ use Rattle.unit_book.proofs.LegalFacts.{facts}
 use Rattle.unit_history.specs.declared.attempt.Attempt.{Attempt}
 use Rattle.unit_history.specs.Replayed.{IsPost}
 use Rattle.unit_history.specs.Ties.{ArrivesAt, IsWithin, ReplayTies}
-use Rattle.unit_history.proofs.Before.{before, mask-before}
+use Rattle.unit_history.proofs.ReplayBefore.{before, mask-before}
 use Rattle.unit_history.proofs.Entries.{Stands, again-area, again-named, first-area, first-start, post-active, post-none, post-other}
 use Rattle.unit_history.proofs.Entries.{start-opened, start-seeks, start-stands}
 use Rattle.unit_history.proofs.Steps.{legal-here, post-entry, stands-before, ties-behind, whole-none}

@@ -1,10 +1,10 @@
 -- The lemmas of unit_history: the events, and that a replay keeps to its trace.
-pub mod Before
+pub mod ReplayBefore
 pub mod Begun
 pub mod DcbLaws
 pub mod DoomCauses
 pub mod Entries
-pub mod Next
+pub mod ReplayNext
 pub mod OrderlyLaws
 pub mod PastLaws
 pub mod Runs

@@ -38,7 +38,7 @@ use Rattle.unit_book.proofs.TraceLaws.{any-later, start-unposted}
 use Rattle.unit_book.proofs.Names.{Final, Status, verdict}
 use Rattle.unit_book.proofs.Restarts.{retry-few}
 use Rattle.unit_book.proofs.Starts.{no-starts}
-use Rattle.unit_history.proofs.Before.{before-next}
+use Rattle.unit_history.proofs.ReplayBefore.{before-next}
 use Rattle.unit_history.specs.Ties.{ArrivesAt}
 use Rattle.std.proofs.lemmas.List.Folds.{list_any-append}
 use Rattle.unit_history.proofs.TurnLaws.{rest-at}

@@ -42,7 +42,7 @@ use Rattle.unit_history.specs.declared.past.Active.{Active}
 use Rattle.unit_history.specs.declared.past.Past.{Past}
 use Rattle.std.proofs.Common.{drop, length-drop, zero}
 use Rattle.std.proofs.lemmas.Option.{slice_get_within}
-use Rattle.unit_history.proofs.Before.{before-next}
+use Rattle.unit_history.proofs.ReplayBefore.{before-next}
 use Rattle.unit_history.proofs.TurnLaws.{rest-at, turns-end, turns-few, turns-more, turns-none}
 use Rattle.unit_history.specs.Events.{turn, turns}
 use Rattle.unit_history.specs.Orderly.{Orderly}

@@ -13,7 +13,7 @@ use Rattle.unit_book.proofs.Facts.{fits-freely}
 use Rattle.unit_history.specs.declared.attempt.Attempt.{Attempt}
 use Rattle.unit_history.specs.Replayed.{IsRan, partly}
 use Rattle.unit_history.specs.Ties.{IsWithin, ReplayTies}
-use Rattle.unit_history.proofs.Before.{before}
+use Rattle.unit_history.proofs.ReplayBefore.{before}
 use Rattle.unit_history.proofs.Entries.{Stands, has-left, runs, run-stands}
 use Rattle.unit_history.proofs.Steps.{legal-here, ran-entry, running-state, stands-within, ties-behind, ties-within, within-less}
 

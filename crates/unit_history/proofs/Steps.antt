@@ -22,7 +22,7 @@ use Rattle.unit_book.proofs.LegalFacts.{facts, newest-ran}
 use Rattle.unit_history.specs.declared.attempt.Attempt.{Attempt}
 use Rattle.unit_history.specs.Replayed.{IsPost, IsRan, partly, replayed}
 use Rattle.unit_history.specs.Ties.{IsWithin, ReplayTies}
-use Rattle.unit_history.proofs.Before.{before, before-next, legal-before}
+use Rattle.unit_history.proofs.ReplayBefore.{before, before-next, legal-before}
 use Rattle.unit_history.proofs.Entries.{Stands, IsSilent, silent}
 
 -- which entry it is

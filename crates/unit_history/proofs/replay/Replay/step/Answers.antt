@@ -3,7 +3,7 @@ use Rattle.std.specs.Prelude.{slice_get}
 use Rattle.unit_book.specs.declared.entry.Entry.TheVariants.{Start, Post}
 use Rattle.unit_history.specs.Replayed.{ReplayPlace}
 use Rattle.unit_history.specs.Ties.{IsWithin}
-use Rattle.unit_history.proofs.Next.{behind-whole, entry-at, silent-is, step-whole}
+use Rattle.unit_history.proofs.ReplayNext.{behind-whole, entry-at, silent-is, step-whole}
 use Rattle.unit_history.proofs.Steps.{legal-reversed, ties-silent, whole-none}
 use Rattle.unit_history.proofs.replay.Replay.step.Goals as goal
 
