@@ -2,6 +2,7 @@
 report that it comes to.
 """
 
+import copy
 import json
 import re
 
@@ -32,7 +33,7 @@ def kind_of(value, path):
     path = {"loop": "steps", "last_place": "place"}.get(path, path)
     if path == "steps":
         told.append("loop" if "loop" in value else "rule" if "rule" in value else "command")
-    elif path == "medium":
+    elif path == "medium" or value.get("what") == "medium":
         told.append(next(kind for key, kind in MEDIA.items() if key in value))
     elif path == "place":
         told.append(next(key for key in PLACES if key in value))
@@ -69,6 +70,21 @@ def form():
 
 
 FORM = form()
+
+
+def form_of_lines():
+    """The form of the lines of a record that the document shows. Places, rules and what they list are as in the JSON."""
+    lines = lines_of(re.search(r"^```jsonl\n(.*?)^```$", read(DOCUMENT), re.M | re.S)[1])
+    is_shared = re.compile("(needed )?(place .*|rule)|items of (ids|keys|active|from|to)").fullmatch
+    forms = {kind: copy.copy(members) for kind, members in FORM.items() if is_shared(kind)}
+    add_form(lines, "line", forms)
+    return forms
+
+
+def lines_of(text):
+    """The lines of a record as objects, without the place of an event among those of all units, which each event has or none."""
+    lines = [json.loads(line) for line in text.splitlines()]
+    return [{key: value for key, value in line.items() if key != "at"} for line in lines]
 
 
 def check_form(value, path, forms):

@@ -279,6 +279,22 @@ def is_bounded(setup, give, rest, parts):
     require(numbers == parts, f"of the medium there are {numbers}, and {parts} were touched")
 
 
+def lines_have_form(setup):
+    """The lines of the records of all stored scripts and scenarios are of the kinds that the document shows, and these are all of
+    its kinds."""
+    forms, found = reports.form_of_lines(), set()
+    scripts = [("report", script) for _, script, _ in stored()]
+    for word, script in [*scripts, *(("step", read(file)) for file in scenarios())]:
+        for most in "", "most=1":
+            ran = run([setup.tools, word, "form=steps", *filter(None, [most])], script)
+            require(ran.status == 0, "the record fails", ran)
+            lines = reports.lines_of(ran.out)
+            reports.check_form(lines, "line", forms)
+            found |= {reports.kind_of(it, "line") for it in lines}
+    due = {kind for kind in forms if kind.startswith("line ")}
+    require(found == due, f"the document and the records do not both have {sorted(found ^ due)}")
+
+
 def writes_to_its_end(setup, word, file):
     """A writer that fails is reported."""
     with open("/dev/full", "w", encoding="ascii") as full:
@@ -311,6 +327,7 @@ def cases(setup):
         texts = [text if "# unit " in text else without_history(text)]
         yield Case(f"JSON of {os.path.relpath(file, TOP)}", lambda s=script, t=texts: is_right(setup, s, t), ORIGIN)
         yield Case(f"some steps of {os.path.relpath(file, TOP)}", lambda s=script: is_shortened(setup, s), ORIGIN)
+    yield Case("the lines of records", lambda: lines_have_form(setup), "docs/REPORT.md")
     yield Case("the judge of places rejects each changed place", judge_is_strict, "tests/places.py")
     for seed in range((JOBS_LONG if setup.is_long else JOBS) // BATCH):
         yield Case(f"JSON of {BATCH} jobs at random, {seed}", lambda s=seed: are_right(setup, s), ORIGIN)
