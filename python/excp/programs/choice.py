@@ -17,7 +17,10 @@ NEWER = (
     "{} is newer than the proved program, which runs: ./excp --build proves it anew, "
     "./excp --try runs the sources as they are"
 )
-BUILDS = "{}: builds it unproved; ./excp --build proves it, in half an hour to an hour"
+BUILDS = (
+    "{}: builds it unproved, in one to three minutes; "
+    "./excp --build proves it, in half an hour to an hour"
+)
 
 
 class Mode(enum.Enum):
