@@ -41,12 +41,18 @@ fn write_disk<W: Write>(out: &mut W, disk: &Disk) -> io::Result<()> {
 
 fn write_cylinder<W: Write>(out: &mut W, disk: &Disk, cylinder: u16) -> io::Result<()> {
     for head in 0..disk.heads() {
-        let track = Track { cylinder, head };
-        for (nth, record) in disk.records(cylinder, head).enumerate() {
-            if nth > 0 || !track.has_mounted(&record) {
-                write_record(out, track, nth, &record)?;
-            }
+        write_track(out, disk, Track { cylinder, head })?;
+    }
+    Ok(())
+}
+
+fn write_track<W: Write>(out: &mut W, disk: &Disk, track: Track) -> io::Result<()> {
+    let mut nth: usize = 0;
+    for record in disk.records(track.cylinder, track.head) {
+        if nth > 0 || !track.has_mounted(&record) {
+            write_record(out, track, nth, &record)?;
         }
+        nth = nth.saturating_add(1);
     }
     Ok(())
 }
