@@ -9,9 +9,11 @@ use crate::refusal::Refusal;
 use crate::site::Site;
 use any_device::AnyDevice;
 use ckd_disk::{Records, Stored};
+use device_port::Fault;
 use line_printer::PrintedLine;
 use record_lines::{Part, write_unit};
 use run_record::UnitRecord;
+use unit_book::UnitBook;
 
 impl Site {
     /// Makes the record of a unit, as lines of JSON (docs/REPORT.md), with at most this many of its commands, and keeps it in place
@@ -26,12 +28,7 @@ impl Site {
         ensures err { OnErr result (self.new ≡ self.old) }
     {
         self.has_unit(unit)?;
-        let record = UnitRecord {
-            book: self.plain.book(unit),
-            faults: &[],
-            room: None,
-            places: None,
-        };
+        let record = record_of(self.plain.book(unit));
         let part = if most_steps > 0 {
             Part::Steps(most_steps)
         } else {
@@ -118,4 +115,16 @@ fn at(records: Records<'_>, place: usize) -> Option<Stored<'_>>
         rest.next()?;
     }
     rest.next()
+}
+
+/// The record of a unit of which the book alone is known.
+fn record_of<'a>(book: &'a UnitBook<AnyDevice>) -> UnitRecord<'a> {
+    let faults: &'a [Fault] = &[];
+    let places: Option<&'a [usize]> = None;
+    UnitRecord {
+        book,
+        faults,
+        room: None,
+        places,
+    }
 }
