@@ -1,6 +1,6 @@
 """Builds the wheel with the standard library alone, so that pip needs no network (PEP 517 and PEP 660).
 
-The wheel has the command `excp`, whose pages of help are files of the package. It has libexcp.so if EXCP_LIBRARY names it, or if it is
+The wheel has the command `excp`, whose pages of help and whose viewer are files of the package. It has libexcp.so if EXCP_LIBRARY names it, or if it is
 beside the package or in out/library of the repository.
 """
 
@@ -14,6 +14,9 @@ import zipfile
 HERE = os.path.dirname(os.path.realpath(__file__))
 PACKAGE = "excp"
 LIBRARY = "libexcp.so"
+
+# The files of the package: its modules, its pages of help, and the viewer of pages.
+KINDS = ".py", ".typed", ".txt", ".css", ".html", ".js"
 
 
 def project(table="project"):
@@ -64,7 +67,7 @@ def package():
     for place, folders, names in os.walk(folder):
         folders.sort()
         for it in sorted(names):
-            if it.endswith((".py", ".typed", ".txt")):
+            if it.endswith(KINDS):
                 files[os.path.relpath(f"{place}/{it}", HERE)] = read(f"{place}/{it}")
     library = built_library()
     return {**files, f"{PACKAGE}/{LIBRARY}": read(library)} if library else files

@@ -17,7 +17,7 @@ NAMES = "chromium", "chromium-browser", "google-chrome"
 # The most seconds that a page may take to load, and that an answer may take.
 SECONDS = 120
 
-# Waits until the script of a page (viewer/page.js) has built it, or half a minute, and for two frames more.
+# Waits until the script of a page (python/excp/viewer/page.js) has built it, or half a minute, and for two frames more.
 BUILT = """(async () => {
   const frame = () => new Promise(done => requestAnimationFrame(done));
   for (let at = performance.now(); document.body.dataset.state !== "built" && performance.now() < at + 30000;) await frame();
