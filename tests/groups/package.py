@@ -27,8 +27,8 @@ ORIGIN = "docs/ARCHITECTURE.md: the command ends without a traceback for any inp
 FORM = "CONTRIBUTING.md, Python"
 
 # The parts of the package that have our form: at most so many lines a module and a function, and columns a line.
-FOLDERS = "command", "script", "symbols", "checking", "images", "files", "programs"
-MODULES = "__init__", "__main__", "device_commands", "findings"
+FOLDERS = "command", "script", "symbols", "checking", "images", "files", "programs", "reporting"
+MODULES = "__init__", "__main__", "device_commands", "device_status", "findings"
 MODULE_LINES, FUNCTION_LINES, COLUMNS = 300, 30, 100
 
 

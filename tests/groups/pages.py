@@ -8,6 +8,7 @@ dark: what the page shows is what tests/pages.py takes from the JSON alone. Byte
 
 import json
 import os
+import re
 import struct
 import subprocess
 import sys
@@ -19,6 +20,8 @@ from groups.costs import STARTER
 from groups.reports import as_json, stored
 from groups.scenarios import scenarios
 from harness import SAMPLES, TOP, Case, Failed, expect_text, read, require, run
+
+VIEWER = f"{TOP}/python/excp/viewer"
 
 # How many pages one browser opens.
 SHEAF = 25
@@ -72,8 +75,8 @@ wait 0
 # The most bytes of a page of 20,000 requests, by the kind of its requests.
 SIZES = {"small": 19_000_000, "different": 25_000_000}
 
-# The most memory that the run and its page take, in MiB.
-MEMORY = {"small": 28, "different": 30}
+# The most memory that each process of a run and its page takes, in MiB: the package's process is the larger one.
+MEMORY = {"small": 28, "different": 32}
 
 
 def page_of(setup, *words, script):
@@ -105,10 +108,17 @@ def has_its_json(setup, script):
     expect_text("other posts than the JSON", None, pages.posts_of(expected), page.texts["post-lines"])
 
 
-def is_generated(_):
-    """The template is what viewer/ comes to."""
-    ran = run([sys.executable, f"{TOP}/tools/viewer.py", "--check"])
-    require(ran.status == 0, "another template", ran)
+def viewer_is_whole():
+    """The page has each file of the viewer. No text of a script has several lines, which are stripped, or could end the element."""
+    from excp.reporting import page
+
+    files = {f"{name}.css" for name in page.STYLES} | {f"{name}.js" for name in page.SCRIPTS} | {"page.html"}
+    require(files == set(os.listdir(VIEWER)), f"not in both: {sorted(files ^ set(os.listdir(VIEWER)))}")
+    for name in files:
+        text = read(f"{VIEWER}/{name}")
+        if name.endswith(".js"):
+            require(not any(line.count("`") % 2 for line in text.split("\n")), f"a text of {name} has several lines")
+        require(name == "page.html" or not re.search("</|<!--", text), f"{name} could end an element")
 
 
 def with_bytes(data):
@@ -360,7 +370,7 @@ def sheets():
 
 
 def cases(setup):
-    yield Case("the template", lambda: is_generated(setup), "tools/viewer.py")
+    yield Case("the files of the viewer", viewer_is_whole, "python/excp/reporting/page.py")
     for name, script, texts in stored():
         yield Case(f"page of {name}", lambda s=script, t=texts: is_right(setup, s, t), ORIGIN)
     for file in scenarios():

@@ -555,6 +555,43 @@ def output_that_fails_saves_nothing(setup):
                 require(os.listdir(folder) == (["saved"] if is_saved and not output else []), "saved, or not", ran)
 
 
+def unread_report_saves(setup):
+    """A report in each form, which nothing reads or which cannot be written, saves as one in words does; so do scenarios as pages."""
+    job = f"tasks 1\n{MARK}".replace(OTHER, f"tape 1 0 200000\nblock 1 {'C1' * 65535}\n")
+    for words, script, is_saved in (
+        *((["report", *form], job, True) for form in ([], ["--steps"], ["--json"], ["--html"], ["--seed", "1"])),
+        *((["step", form], f"{MARKED}{EVENTS}finish\n", False) for form in ("--json", "--html")),
+    ):
+        for status, said, output in (1, "excp: output not written\n", "/dev/full"), (0, "", ""):
+            reader, writer = (None, os.open(output, os.O_WRONLY)) if output else os.pipe()
+            if reader is not None:
+                os.close(reader)
+            with tempfile.TemporaryDirectory(prefix="targets-") as folder:
+                ran = run(setup.command(*words, "--save", "0=saved"), script, cwd=folder, stdout=writer)
+                os.close(writer)
+                expect(ran, (status, "", said))
+                require(os.listdir(folder) == (["saved"] if is_saved and not output else []), "saved, or not", ran)
+
+
+def signal_ends_what_is_unread(setup):
+    """A signal ends a report whose reader has stopped. No process and no file is left."""
+    script = "\n".join(["tasks 1", "tape 0 0 400000", *5 * [f"block 0 {'C1' * 65535}"], "wait 0", ""])
+    for form in [], ["--steps"], ["--json"], ["--html"]:
+        for sent in signal.SIGTERM, signal.SIGINT, signal.SIGHUP:
+            with tempfile.TemporaryDirectory(prefix="targets-") as folder:
+                command = setup.command("report", *form, "--save", "0=saved")
+                words = {"stdin": subprocess.PIPE, "stdout": subprocess.PIPE, "stderr": subprocess.PIPE, "cwd": folder}
+                with subprocess.Popen(command, **words) as it:
+                    it.stdin.write(script.encode())
+                    it.stdin.close()
+                    it.stdout.read(1)
+                    it.send_signal(sent)
+                    # the program has the same standard error
+                    said = it.stderr.read()
+                require((it.wait(SECONDS), said) == (-sent, b""), f"status {it.returncode} after {sent.name}: {said}")
+                require(os.listdir(folder) == [], f"left after {sent.name}: {os.listdir(folder)}")
+
+
 # --- calls that fail, and kills
 
 
@@ -686,7 +723,8 @@ def cases(setup):
     yield Case("is decided after the run", lambda: is_decided_after_the_run(setup), ORIGIN)
     yield Case("is as it was read", lambda: is_as_it_was_read(setup), ORIGIN)
     yield Case("image of a unit is kept", lambda: image_of_a_unit_is_kept(setup), ORIGIN)
-    for judge in unit_comes_after_an_event, compressed_image_is_kept, dialog_learns_its_unit, unmet_expectation_saves, output_that_fails_saves_nothing:
+    for judge in (unit_comes_after_an_event, compressed_image_is_kept, dialog_learns_its_unit, unmet_expectation_saves,
+                  output_that_fails_saves_nothing, unread_report_saves, signal_ends_what_is_unread):
         yield Case(judge.__name__.replace("_", " "), lambda j=judge: j(setup), ORIGIN)
     for name in WORDS:
         for made in MADE:

@@ -51,22 +51,15 @@ def run(given: argparse.Namespace) -> int:
     return _list(given) if given.listing else _report(given, form)
 
 
-def _report(given: argparse.Namespace, form: Optional[str]) -> int:
+def _report(given: argparse.Namespace, name: Optional[str]) -> int:
+    from .forms import form_of
     from .tool_run import carry_out
-    from .tools import Order
+    from .tools import Order, title_of
     from .whole_script import read_job
 
-    order = Order.of(
-        given,
-        "report",
-        words_of(
-            form=form,
-            most=given.most_steps,
-            seed=given.seed,
-            channels=given.channels,
-            handlers=given.handlers,
-        ),
-    )
+    words = words_of(seed=given.seed, channels=given.channels, handlers=given.handlers)
+    form = form_of(name, title_of(given.script), given.most_steps)
+    order = Order.of(given, "report", words, form, saves_unread=True)
     return carry_out(order, read_job(given.script, order.loads))
 
 

@@ -6,11 +6,12 @@ import argparse
 import os
 import stat
 
+from .forms import form_of
 from .options import MOST, check_exclusions, number, words_of
 from .script_file import add_script
 from .streams import INPUT, STANDARD_INPUT, Ended, opened_script
 from .tool_run import carry_out
-from .tools import Order
+from .tools import Order, title_of
 from .unit_files import add_load, add_save
 
 _EXCLUSIONS = {"json": ("trace", "state"), "html": ("json", "trace", "state")}
@@ -32,9 +33,11 @@ def run(given: argparse.Namespace) -> int:
     check_exclusions(given, _EXCLUSIONS)
     if given.most_steps is not None and not given.json:
         given.usage_error("--most-steps N needs --json")
-    form = "json" if given.json else "html" if given.html else None
-    words = words_of(form=form, most=given.most_steps, trace=given.trace, state=given.state)
-    order = Order.of(given, "step", words)
+    form = None
+    if given.json or given.html:
+        name = "json" if given.json else "html"
+        form = form_of(name, title_of(given.script), given.most_steps)
+    order = Order.of(given, "step", words_of(trace=given.trace, state=given.state), form)
     if given.script is None:
         return _step_input(order)
     with opened_script(given.script) as script:

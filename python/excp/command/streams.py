@@ -98,10 +98,16 @@ def of_file(name: str, sentence: str) -> Ended:
     return Ended(f"{printable_name(name)}: {sentence}")
 
 
-def write_output(parts: Iterable[bytes]) -> None:
-    """Writes to standard output. Raises Ended, and ReaderGone if nothing reads it."""
+def error_of_program(what: str) -> Ended:
+    """Why the command ends if this program is at fault."""
+    return Ended(f"error of this program: {what}; please report it with the script", FAILED)
+
+
+def write_output(parts: Iterable[bytes], stream: int = OUTPUT) -> None:
+    """Writes to standard output, which may have this number too. Raises Ended, and ReaderGone if
+    nothing reads it."""
     try:
-        with open(OUTPUT, "wb", closefd=False) as output:
+        with open(stream, "wb", closefd=False) as output:
             output.writelines(parts)
     except BrokenPipeError:
         raise ReaderGone from None

@@ -11,7 +11,7 @@ import os
 import tempfile
 from dataclasses import replace
 from enum import IntEnum
-from typing import AbstractSet, Iterator, List, NoReturn, Tuple
+from typing import AbstractSet, Iterator, List, Optional, Tuple
 
 from ..files.folder import ScenarioFolder
 from ..files.new_files import NewFiles
@@ -23,8 +23,10 @@ from ..images.reading import Unreadable
 from ..images.unpacking import plain_file
 from ..programs.children import ended
 from .handing import handed, name_in_texts
+from .printing import Printing
 from .streams import (
-    ERRORS, FAILED, REJECTED, Ended, name_of, of_file, print_findings, say_removed,
+    ERRORS, REJECTED, Ended, ReaderGone, error_of_program, name_of, of_file, print_findings,
+    say_removed,
 )
 from .tools import Order, Source
 from .unit_files import load_images
@@ -117,16 +119,35 @@ class _Run:
                 replacement = new.begin(output)
                 say_removed(output.name, replacement.removed)
                 self._hand(word, replacement.descriptor, output.name)
-            with self._source.opened() as given:
-                begun = self._source.begun
-                status = ended(self._words, given, files=self._files, mask=mask, begun=begun)
+            status, failure = self._ended_and_printed(mask)
             end_if_asked()
             self._source.ended()
-            if status in _GOOD:
+            if status in _GOOD and self._is_kept_after(failure):
                 new.finish(self._known)
+            if failure is not None and status in (*_GOOD, Status.READER_GONE):
+                raise failure
             return status
         finally:
             new.abandon()
+
+    def _ended_and_printed(self, mask: AbstractSet[int]) -> Tuple[int, Optional[Exception]]:
+        """The exit status of the program, and why its report is not printed, if it is not."""
+        form, printing = self._order.form, None
+        if form is not None:
+            has_new_files = next(self._outputs(), None) is not None
+            printing = Printing(form, is_awaited=self._order.saves_unread and has_new_files)
+        with self._source.opened() as given:
+            begun = self._source.begun
+            status = ended(
+                self._words, given, files=self._files, mask=mask, begun=begun, reader=printing
+            )
+        return status, printing.failure if printing is not None else None
+
+    def _is_kept_after(self, failure: Optional[Exception]) -> bool:
+        """Whether what is saved is kept if this has kept the report from being printed."""
+        if isinstance(failure, ReaderGone):
+            return self._order.saves_unread
+        return failure is None
 
     def _outputs(self) -> Iterator[Tuple[str, Output]]:
         """The files that the program fills, each with the word that hands it over."""
@@ -149,20 +170,16 @@ def _said(order: Order, source: Source, status: int) -> int:
     if status == Status.REFUSED:
         findings = source.findings(load_images(name_of(order.script), order.loads))
         if not any(finding.is_fault for finding in findings):
-            _disagree("the program rejects this script, and `check` finds no fault")
+            raise error_of_program("the program rejects this script, and `check` finds no fault")
         print_findings(findings, source.file, ERRORS)
         return REJECTED
     if status == Status.NO_IMAGE:
         for name in order.loads.values():
             measured(name)
-        _disagree("the program loads an image not, in which `describe` finds no fault")
+        raise error_of_program("the program loads an image not, in which `describe` finds no fault")
     if status == Status.UNFIT:
         check_fit(source.units() or (), order.loads, order.saves)
-        _disagree("the program finds a file for no unit")
+        raise error_of_program("the program finds a file for no unit")
     if status == Status.READER_GONE:
         return 0
     return REJECTED if status == Status.UNMET else status
-
-
-def _disagree(what: str) -> NoReturn:
-    raise Ended(f"error of this program: {what}; please report it with the script", FAILED)

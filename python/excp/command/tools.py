@@ -11,6 +11,7 @@ from typing import BinaryIO, Callable, ContextManager, Mapping, Optional, Protoc
 from ..checking.loaded import Images
 from ..files.targets import Targets, UnitFile
 from ..findings import Finding
+from .forms import Form
 from .handing import name_in_texts
 from .options import unit_files
 from .streams import name_of
@@ -43,9 +44,15 @@ class Source(Protocol):
 @dataclass(frozen=True)
 class Order:
     """What is asked of the program: its words but those of files, the files of units, that of the
-    schedule, the folder of scenarios, and which build runs."""
+    schedule, the folder of scenarios, and which build runs.
+
+    `form` is how its record is printed; without one the program prints by itself. `saves_unread`
+    says that what is saved is kept, although nothing reads the output.
+    """
 
     words: Sequence[str]
+    form: Optional[Form]
+    saves_unread: bool
     program_of: Callable[[str], Path]
     loads: Mapping[int, str]
     saves: Mapping[int, str]
@@ -55,11 +62,20 @@ class Order:
     folder: Optional[str]
 
     @classmethod
-    def of(cls, given: argparse.Namespace, word: str, words: Sequence[str]) -> Order:
+    def of(
+        cls,
+        given: argparse.Namespace,
+        word: str,
+        words: Sequence[str],
+        form: Optional[Form] = None,
+        saves_unread: bool = False,
+    ) -> Order:
         """The order of a word with these options. Raises Ended."""
-        title = f"title={name_in_texts(name_of(given.script))}"
+        title = f"title={title_of(given.script)}"
         return cls(
-            words=[word, title, *words],
+            words=[word, title, *words, *(form.words if form is not None else ())],
+            form=form,
+            saves_unread=saves_unread,
             program_of=given.program_of,
             loads=unit_files(given, "load"),
             saves=unit_files(given, "save") if "save" in given else {},
@@ -76,3 +92,8 @@ class Order:
             for files in (self.loads, self.saves)
         )
         return Targets(self.script, self.force, loads, saves, self.schedule)
+
+
+def title_of(script: Optional[str]) -> str:
+    """The name of a script's file as a report has it; None is standard input."""
+    return name_in_texts(name_of(script))

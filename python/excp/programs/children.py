@@ -7,7 +7,8 @@ import ctypes
 import os
 import signal
 import subprocess
-from typing import IO, AbstractSet, Callable, Optional, Sequence, Union
+import threading
+from typing import IO, AbstractSet, Callable, Optional, Protocol, Sequence, Tuple, Union
 
 from ..files.signals import ending
 
@@ -15,6 +16,20 @@ from ..files.signals import ending
 _PR_SET_PDEATHSIG = 1
 
 File = Union[int, IO[bytes], None]
+
+
+class Reader(Protocol):
+    """What reads the standard output of a program, in a thread of its own."""
+
+    @property
+    def is_over(self) -> bool:
+        """Whether it reads and does nothing more."""
+
+    def begin(self, output: IO[bytes], wake: Callable[[], None]) -> None:
+        """Begins to read. When it is over, it closes the output and then calls `wake`."""
+
+    def program_ended(self, status: int) -> None:
+        """The program has ended, with this status, negative after a signal."""
 
 
 def ended(
@@ -25,21 +40,22 @@ def ended(
     files: Sequence[int] = (),
     mask: Optional[AbstractSet[int]] = None,
     begun: Callable[[], None] = lambda: None,
+    reader: Optional[Reader] = None,
 ) -> int:
-    """The exit status of a program, once it has ended. After a signal that ends this process, ends
-    the program, and then this process by that signal.
+    """The exit status of a program, once it has ended and its reader, if it has one, is over. After
+    a signal that ends this process, ends the program, and then this process by that signal.
 
     The program has these open files, and this mask of signals, by default that of its caller. When
-    it has begun, `begun` is called.
-    """
+    it has begun, `begun` is called."""
     awaited = ending()
     # one whose parent ignores it would not be sent
     signal.signal(signal.SIGCHLD, signal.SIG_DFL)
     before = signal.pthread_sigmask(signal.SIG_BLOCK, {*awaited, signal.SIGCHLD})
     try:
-        child = _started(words, stdin, stderr, files, before if mask is None else mask)
+        standard = (stdin, None if reader is None else subprocess.PIPE, stderr)
+        child = _started(words, standard, files, before if mask is None else mask)
         begun()
-        asked = _end_of(child, awaited)
+        asked = _end_of(child, awaited, reader)
     finally:
         signal.pthread_sigmask(signal.SIG_SETMASK, before)
     if asked is not None:
@@ -50,16 +66,17 @@ def ended(
 
 def _started(
     words: Sequence[str],
-    stdin: File,
-    stderr: File,
+    standard: Tuple[File, File, File],
     files: Sequence[int],
     mask: AbstractSet[int],
 ) -> subprocess.Popen[bytes]:
     parent = os.getpid()
+    stdin, stdout, stderr = standard
     # a reader that is gone, or a file that gets too large, is an error for it and no signal
     return subprocess.Popen(
         words,
         stdin=stdin,
+        stdout=stdout,
         stderr=stderr,
         pass_fds=files,
         restore_signals=False,
@@ -67,16 +84,34 @@ def _started(
     )
 
 
-def _end_of(child: subprocess.Popen[bytes], awaited: AbstractSet[int]) -> Optional[int]:
-    """Waits until a program ends. Returns the signal that has ended it before, if one has. All
-    these signals are blocked, so that none comes between two steps."""
+def _end_of(
+    child: subprocess.Popen[bytes], awaited: AbstractSet[int], reader: Optional[Reader]
+) -> Optional[int]:
+    """Waits until a program ends and its reader is over. Returns the signal that has ended it
+    before, if one has: then nothing waits for the reader, which may be blocked. All these signals
+    are blocked, so that none comes between two steps."""
     asked = None
+    if reader is not None and child.stdout is not None:
+        reader.begin(child.stdout, _waker())
     while child.poll() is None:
         number = signal.sigwait({*awaited, signal.SIGCHLD})
         if number != signal.SIGCHLD:
             asked = number
             child.terminate()
+    if reader is None:
+        return asked
+    reader.program_ended(child.returncode)
+    while asked is None and not reader.is_over:
+        number = signal.sigwait({*awaited, signal.SIGCHLD})
+        asked = None if number == signal.SIGCHLD else number
     return asked
+
+
+def _waker() -> Callable[[], None]:
+    """What ends a wait of the thread that calls this for a signal: it sends the signal that the end
+    of a program sends too."""
+    waiting = threading.get_ident()
+    return lambda: signal.pthread_kill(waiting, signal.SIGCHLD)
 
 
 def _begin(parent: int, mask: AbstractSet[int]) -> None:

@@ -1,0 +1,110 @@
+"""Prints a form of the record that a program writes, in a thread of its own."""
+
+from __future__ import annotations
+
+import io
+import os
+import queue
+import re
+import threading
+from itertools import chain
+from typing import IO, Callable, Iterable, Iterator, Optional
+
+from ..reporting.kept import NotKept
+from ..reporting.record import Record
+from .forms import Form
+from .handing import handed
+from .streams import (
+    FAILED, OUT_OF_MEMORY, OUTPUT, Ended, error_of_program, takes_colour, write_output,
+)
+
+# A comment of a script, and it in faint letters, as terminals take them (ECMA-48, "SGR").
+_COMMENT, _FAINT = re.compile(r"^#.*$", re.M), "\x1b[2m\\g<0>\x1b[0m"
+
+# The bytes that are read at a time if nothing uses them.
+_AT_A_TIME = 1 << 16
+
+
+class _CutShort(Exception):
+    """The program has ended before the end of its record, and has said why."""
+
+
+class Printing:
+    """Prints a form of a record. `is_awaited` says that the program is to reach its end although
+    nothing is printed any more.
+
+    `failure` is why not all is printed: ReaderGone, Ended or MemoryError.
+    """
+
+    def __init__(self, form: Form, is_awaited: bool) -> None:
+        self.is_over = False
+        self.failure: Optional[Exception] = None
+        self._form, self._is_awaited = form, is_awaited
+        self._is_faint = form.has_comments and takes_colour(OUTPUT)
+        self._output = _held_output()
+        self._status: queue.SimpleQueue[int] = queue.SimpleQueue()
+
+    def begin(self, output: IO[bytes], wake: Callable[[], None]) -> None:
+        """Begins to read and print. No process may be forked any more."""
+        try:
+            threading.Thread(target=self._run, args=(output, wake), daemon=True).start()
+        except RuntimeError:
+            raise Ended("no thread can be made to print the report", FAILED) from None
+
+    def program_ended(self, status: int) -> None:
+        """The program has ended, with this status, negative after a signal."""
+        self._status.put(status)
+
+    def _run(self, output: IO[bytes], wake: Callable[[], None]) -> None:
+        # closes the output when it goes
+        lines = io.TextIOWrapper(output, encoding="ascii", newline="\n")
+        try:
+            self._print(Record(self._whole(lines)))
+        except _CutShort:
+            pass
+        except Exception as error:
+            self.failure = _as_end(error)
+            while self._is_awaited and os.read(lines.fileno(), _AT_A_TIME):
+                pass
+        finally:
+            lines.close()
+            self.is_over = True
+            wake()
+
+    def _whole(self, lines: Iterable[str]) -> Iterator[str]:
+        """The lines, if they are a whole record. Raises _CutShort after the last one of another."""
+        yield from lines
+        status = self._status.get()
+        if status < 0 or status == OUT_OF_MEMORY:
+            raise _CutShort
+
+    def _print(self, record: Record) -> None:
+        pieces: Iterable[str] = self._form.pieces(record)
+        if self._is_faint:
+            pieces = (_COMMENT.sub(_FAINT, piece) for piece in pieces)
+        parts = (piece.encode() for piece in pieces)
+        # without a record nothing is printed, whatever the output is
+        for part in parts:
+            if self._output is None:
+                raise Ended("output not written")
+            write_output(chain([part], parts), self._output)
+        if record.what is not None:
+            raise ValueError("lines after the end of a record")
+
+
+def _held_output() -> Optional[int]:
+    """A descriptor of standard output that no file gets which is opened later; None if it is
+    closed."""
+    try:
+        return handed(OUTPUT)
+    except OSError:
+        return None
+
+
+def _as_end(error: Exception) -> Exception:
+    """Why the command ends after this error."""
+    if isinstance(error, NotKept):
+        return Ended(f"no file can be written that keeps parts of the report: {error}")
+    if isinstance(error, (ValueError, LookupError, TypeError)):
+        return error_of_program("a record of the program has another form")
+    return error

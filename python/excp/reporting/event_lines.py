@@ -1,0 +1,70 @@
+"""The events of a unit in words, each on a line with the number of its entry."""
+
+from __future__ import annotations
+
+from typing import Callable, Mapping
+
+from .record import Members
+from .texts import counted
+
+# Why a request ends that was started. All other reasons keep it from being started.
+_AFTER_START = (None, "halted", "not tried again")
+
+
+def event_line(event: Members) -> str:
+    """The line of an event, a comment of a script."""
+    return f"# {event['entry']:5} {_IN_WORDS[event['what']](event)}\n"
+
+
+def _request(event: Members) -> str:
+    return f"task {event['task']} request {event['request']}"
+
+
+def _opened(event: Members) -> str:
+    count = len(event["extents"])
+    extents = f", {counted(count, 'extent')}" if count else ""
+    return f"DCB {event['dcb']} opened for {event['way']}{extents}"
+
+
+def _arrived(event: Members) -> str:
+    related = ", related" if event["related"] else ""
+    return f"{_request(event)} arrived for DCB {event['dcb']}{related}"
+
+
+def _started(event: Members) -> str:
+    again = f" again, attempt {event['attempt']}" if event["attempt"] > 1 else ""
+    return f"{_request(event)} started{again}"
+
+
+def _ran(event: Members) -> str:
+    turns = f" in {event['turns']} turns" if event["turns"] != 1 else ""
+    return f"{_request(event)} ran {counted(event['commands'], 'command')}{turns}"
+
+
+def _purged(event: Members) -> str:
+    scope = f"task {event['task_purged']}" if "task_purged" in event else None
+    scope = scope or f"DCB {event['dcb_purged']}"
+    active = "nothing active"
+    if event["active"] is not None:
+        active = "task {} request {} active".format(*event["active"])
+    return f"purge of {scope} with {event['mode']}, {active}"
+
+
+def _posted(event: Members) -> str:
+    csw = f"{event['address']} {event['status']} {event['residual']}"
+    end = f"posted {event['code']}, CSW {csw}, sense {event['sense']}"
+    why = "" if event["why"] in _AFTER_START else f", not started: {event['why']}"
+    return f"{_request(event)} {end}{why}"
+
+
+_IN_WORDS: Mapping[str, Callable[[Members], str]] = {
+    "opened": _opened,
+    "arrived": _arrived,
+    "started": _started,
+    "ran": _ran,
+    "halted": lambda event: f"{_request(event)} halted",
+    "purge": _purged,
+    "closed": lambda event: f"DCB {event['dcb']} closed",
+    "reset": lambda event: f"DCB {event['dcb']} reset",
+    "posted": _posted,
+}

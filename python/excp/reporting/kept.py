@@ -1,0 +1,65 @@
+"""Text that is kept until it is printed, in a file without a name."""
+
+from __future__ import annotations
+
+import io
+import os
+import tempfile
+from typing import Iterator
+
+# The characters of a block that is read back.
+_BLOCK = 1 << 16
+
+
+class NotKept(Exception):
+    """A file for text that is kept cannot be made, written or read, for this reason."""
+
+    def __init__(self, error: OSError) -> None:
+        super().__init__(error.strerror)
+
+
+class KeptText:
+    """A text that grows, and then is read from its start. Each method raises NotKept."""
+
+    def __init__(self) -> None:
+        try:
+            self._file = tempfile.TemporaryFile()
+        except OSError as error:
+            raise NotKept(error) from None
+        self._text = io.TextIOWrapper(self._file, encoding="utf-8", newline="\n")
+        self.bytes = 0
+
+    def add(self, text: str) -> None:
+        """Adds to the end of the text."""
+        try:
+            self.bytes += self._file.write(text.encode())
+        except OSError as error:
+            raise NotKept(error) from None
+
+    def has_at(self, start: int, part: str) -> bool:
+        """Whether the text has this part at a place in bytes."""
+        data = part.encode()
+        try:
+            self._file.seek(start)
+            found = self._file.read(len(data))
+            self._file.seek(0, os.SEEK_END)
+        except OSError as error:
+            raise NotKept(error) from None
+        return found == data
+
+    def blocks(self) -> Iterator[str]:
+        """The text in pieces."""
+        try:
+            self._text.seek(0)
+            while block := self._text.read(_BLOCK):
+                yield block
+        except OSError as error:
+            raise NotKept(error) from None
+
+    def lines(self) -> Iterator[str]:
+        """The lines of the text."""
+        try:
+            self._text.seek(0)
+            yield from self._text
+        except OSError as error:
+            raise NotKept(error) from None

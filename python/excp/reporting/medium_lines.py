@@ -1,0 +1,71 @@
+"""What lies on a medium, in the lines of a script that declare it, and comments on what no line
+declares."""
+
+from __future__ import annotations
+
+from typing import Callable, Iterator, Mapping, Optional
+
+from ..device_commands import DISK, PRINTER, TAPE
+from ..images.ebcdic import seen
+from .record import Members, Record, members
+from .texts import shown
+
+
+def medium_lines(record: Record, unit: Members) -> Iterator[str]:
+    """The lines of the medium of a unit, which a record has next."""
+    return _LINES[unit["kind"]](record, unit)
+
+
+def _disk_lines(record: Record, unit: Members) -> Iterator[str]:
+    number, size = unit["unit"], members(record.take())
+    tracks = f"{size['cylinders']} {size['heads']} {size['bytes']}"
+    yield f"disk {number} {unit['isc']} {tracks}\n"
+    for line in record.all_of("record"):
+        it = members(line)
+        track = f"{it['cylinder']} {it['head']}"
+        key, data = shown(it["key"]), shown(it["data"])
+        name = _declared_number(it)
+        if name is None:
+            area = f"CCHHR {it['id']}, key {key}, data {data}"
+            yield f"# no line declares, on track {track}: {area}\n"
+        else:
+            yield f"rec {number} {track} {name} {key} {data}\n"
+
+
+def _declared_number(record: Members) -> Optional[int]:
+    """R of a record that a line can declare: it is of its track, not its first one, and no R0."""
+    track = f"{record['cylinder']:04X}{record['head']:04X}"
+    number = int(record["id"][8:], 16)
+    is_declared = record["nth"] and number and record["id"].startswith(track)
+    return number if is_declared else None
+
+
+def _tape_lines(record: Record, unit: Members) -> Iterator[str]:
+    number, size = unit["unit"], members(record.take())
+    yield f"tape {number} {unit['isc']} {size['bytes']}\n"
+    place, count = size["place"], 0
+    stands = f"# the tape stands here, behind {place} of {size['count']} items\n"
+    for line in record.all_of("item"):
+        if count == place:
+            yield stands
+        block = members(line)["block"]
+        yield f"mark {number}\n" if block is None else f"block {number} {shown(block)}\n"
+        count += 1
+    if count == place:
+        yield stands
+
+
+def _printer_lines(record: Record, unit: Members) -> Iterator[str]:
+    size = members(record.take())
+    yield f"printer {unit['unit']} {unit['isc']} {size['lines']} {size['pages']}\n"
+    for line in record.all_of("line"):
+        it = members(line)
+        yield f"# page {it['page']:5} line {it['line']:2} |{seen(bytes.fromhex(it['bytes']))}\n"
+    yield f"# the paper stands at page {size['page']}, line {size['line']}\n"
+
+
+_LINES: Mapping[str, Callable[[Record, Members], Iterator[str]]] = {
+    DISK: _disk_lines,
+    TAPE: _tape_lines,
+    PRINTER: _printer_lines,
+}

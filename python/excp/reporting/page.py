@@ -1,0 +1,100 @@
+"""A run as one HTML page: its title, its posts as text, its JSON, and the viewer that draws it.
+
+The scripts of the viewer are one script, in the order below, without comments and indentation. The
+page is ASCII but for its title and its JSON. Its content security policy allows its own style and
+script by their hashes, and nothing else.
+"""
+
+from __future__ import annotations
+
+import base64
+import hashlib
+import html
+import re
+import unicodedata
+from pathlib import Path
+from typing import Callable, Iterable, Iterator, List, Mapping
+
+from .record import Record
+from .run_json import RunJson
+
+_VIEWER = Path(__file__).resolve().parents[1] / "viewer"
+
+STYLES = "page lanes panel media paper".split()
+SCRIPTS = (
+    "names dom model waits layout signs legend density overview bars drawing lanes moving panel "
+    "steps media disk tape paper ends list units posts filter print page"
+).split()
+
+# A part of the page that every run has.
+_PART = re.compile(r"\{([a-z-]+)\}")
+
+# Comments of styles and scripts have lines of their own.
+_COMMENT = re.compile(r"^[ \t]*/\*.*?\*/[ \t]*\n", re.M | re.S)
+
+
+def page_report(record: Record, title: str, most: int) -> Iterator[str]:
+    """The page of a run in pieces, with so many commands of each unit. Raises NotKept."""
+    if record.what is None:
+        return
+    run = RunJson(record, title, most)
+    # the posts and the steps come after the script, so that a browser draws the lanes before it
+    # reads them
+    parts: Mapping[str, Callable[[], Iterable[str]]] = {
+        "title": lambda: [_escaped(title)],
+        "front": lambda: map(_without_tags, run.front()),
+        "posts": run.posts,
+        "rest": lambda: map(_without_tags, run.back()),
+    }
+    for number, piece in enumerate(_template()):
+        if number % 2:
+            yield from parts[piece]()
+        else:
+            yield piece
+
+
+def _escaped(title: str) -> str:
+    """A title as text of an element, with a sign for each control character."""
+    visible = (("\ufffd" if unicodedata.category(it) == "Cc" else it) for it in title)
+    return html.escape("".join(visible), quote=False)
+
+
+def _without_tags(text: str) -> str:
+    """JSON in which nothing can end the element of a script (HTML, "Restrictions for contents of
+    script elements"): it has `<` in texts alone."""
+    return text.replace("<", "\\u003c")
+
+
+def _template() -> List[str]:
+    """The pieces of a page, and between them the names of the parts that a run puts in."""
+    style = f"\n{_stripped(_files(STYLES, 'css'))}\n"
+    script = _ascii(f'\n"use strict";\n{{\n{_stripped(_files(SCRIPTS, "js"))}\n}}\n')
+    hashes = {"style-hash": _hash(style), "script-hash": _hash(script)}
+    parts = {"style": style, "script": script, **hashes}
+    pieces = re.split(r"\{\{([a-z]+)\}\}", _read("page.html"))
+    pieces[::2] = (_PART.sub(lambda it: parts[it[1]], piece) for piece in pieces[::2])
+    return pieces
+
+
+def _files(names: Iterable[str], kind: str) -> str:
+    return "\n".join(_read(f"{name}.{kind}") for name in names)
+
+
+def _read(name: str) -> str:
+    return (_VIEWER / name).read_text(encoding="utf-8")
+
+
+def _stripped(text: str) -> str:
+    """A text without its comments, indentation and empty lines."""
+    lines = (line.strip() for line in _COMMENT.sub("", text).split("\n"))
+    return "\n".join(line for line in lines if line and not line.startswith("//"))
+
+
+def _ascii(script: str) -> str:
+    """A script in ASCII: it has other characters in texts alone."""
+    return re.sub(r"[^\x00-\x7f]", lambda it: f"\\u{ord(it[0]):04x}", script)
+
+
+def _hash(text: str) -> str:
+    digest = base64.b64encode(hashlib.sha256(text.encode("ascii")).digest())
+    return f"sha256-{digest.decode()}"

@@ -1,0 +1,58 @@
+"""The lines of a record, which says what happened in a run: each is one object of JSON, with its
+members in a fixed order (docs/REPORT.md)."""
+
+from __future__ import annotations
+
+import json
+import re
+from typing import Any, Dict, Iterable, Iterator, Optional
+
+Members = Dict[str, Any]
+
+# What the events of a unit are, and which of them a task makes.
+CONTROLS = frozenset(("purge", "closed", "reset"))
+EVENTS = CONTROLS | {"opened", "arrived", "started", "ran", "halted", "posted"}
+
+# What the events of a task are.
+TASK_EVENTS = frozenset(("issued", "waited", "collected", "controlled"))
+
+_WHAT = re.compile(r'\{(?:"at":\d+,)?(?:"entry":\d+,)?"what":"([a-z_]+)"')
+
+_DECODER = json.JSONDecoder()
+
+
+def members(text: str) -> Members:
+    """The members of the object of JSON with which a text begins."""
+    found: Members = _DECODER.raw_decode(text)[0]
+    return found
+
+
+class Record:
+    """The lines of a record, which are taken one after another. Raises ValueError if one is none.
+
+    `what` says what the next line is about; it is None after the last one. A line without a line
+    feed, which a program left unfinished, is none.
+    """
+
+    def __init__(self, lines: Iterable[str]) -> None:
+        self._lines = iter(lines)
+        self._next = ""
+        self.what: Optional[str] = None
+        self.take()
+
+    def take(self) -> str:
+        """Takes the next line, without its line feed."""
+        taken = self._next
+        self._next = next(self._lines, "")
+        if not self._next.endswith("\n"):
+            self.what = None
+        elif found := _WHAT.match(self._next):
+            self.what = found[1]
+        else:
+            raise ValueError("a line that is not of a record")
+        return taken[:-1]
+
+    def all_of(self, *whats: str) -> Iterator[str]:
+        """Takes the lines up to the first that is about something else."""
+        while self.what in whats:
+            yield self.take()
