@@ -45,10 +45,10 @@ class Calls:
         self.call("copy_out", 0, made)
         return made.raw
 
-    def make(self, name: str, unit: int) -> bytes:
+    def make(self, name: str, unit: int, *values: Any) -> bytes:
         """The bytes that a call makes of a unit."""
         with self.lock:
-            self.call(name, unit, ctypes.c_size_t())
+            self.call(name, unit, *values, ctypes.c_size_t())
             return self.made()
 
 

@@ -9,6 +9,7 @@ from typing import TYPE_CHECKING, Any, Iterator, List, Sequence, Tuple
 from . import library
 from .blocks import Extent
 from .errors import ExcpError, Status
+from .reporting.text import unit_history
 from .values import (
     Active, Answer, DcbPhase, DcbState, Device, Line, Method, Mode, Name, Record, Served, ServedEnd,
     UnitState,
@@ -147,10 +148,15 @@ class Unit:
                     raise
                 yield found, memoryview(data)
 
-    def history(self) -> str:
-        """What happened at the unit since it was mounted, or since its last checkpoint: a line for
-        each entry. Requests have the numbers that they have there, from 1 on."""
-        return self._calls.make("make_history", self.number).decode("ascii")
+    def record(self, most_steps: int = 0) -> str:
+        """What happened at the unit since it was mounted, or since its last checkpoint, and its
+        medium: a line of JSON for each entry, and for each of its first commands, if that many are
+        wanted (docs/REPORT.md). Requests have the numbers that they have there, from 1 on."""
+        return self._calls.make("make_record", self.number, most_steps).decode("ascii")
+
+    def history(self, most_steps: int = 0) -> str:
+        """The record of the unit as text: a line for each entry, and some for each command."""
+        return "".join(unit_history(self.record(most_steps)))
 
     def image(self) -> bytes:
         """The medium as an image: a disk as CKD_P370, a tape as AWSTAPE, the paper of a printer as

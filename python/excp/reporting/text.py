@@ -8,7 +8,7 @@ from typing import Iterator
 from .event_lines import event_line
 from .medium_lines import medium_lines
 from .post_lines import post_lines
-from .record import EVENTS, TASK_EVENTS, Record, members
+from .record import EVENTS, TASK_EVENTS, Members, Record, members
 from .step_lines import LEFT_OUT, step_lines
 from .texts import counted
 
@@ -22,15 +22,21 @@ def text_report(record: Record) -> Iterator[str]:
         pass
     while record.what == "unit":
         unit = members(record.take())
-        entries = counted(unit["entries"], "entry", "entries")
-        yield f"# unit {unit['unit']}: {unit['kind']}, {entries}\n"
-        yield from _history_lines(record, unit["kind"])
+        yield from _history_lines(record, unit)
         if record.what == "medium":
             yield from medium_lines(record, unit)
 
 
-def _history_lines(record: Record, device: str) -> Iterator[str]:
-    """The events of a unit, and after each its commands."""
+def unit_history(lines: str) -> Iterator[str]:
+    """The history of the unit whose record this is, as the library makes it."""
+    record = Record(lines.splitlines(keepends=True))
+    return _history_lines(record, members(record.take()))
+
+
+def _history_lines(record: Record, unit: Members) -> Iterator[str]:
+    """The events of a unit, whose line this is, and after each its commands."""
+    device = unit["kind"]
+    yield f"# unit {unit['unit']}: {device}, {counted(unit['entries'], 'entry', 'entries')}\n"
     while record.what in _HISTORY:
         what, line = record.what, record.take()
         if what == "step":
