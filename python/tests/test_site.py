@@ -1,5 +1,6 @@
 """Sites, units and events, by docs/MANUAL.md, docs/SPECIFICATION.md and c/excp.h."""
 
+import json
 import re
 import struct
 import threading
@@ -302,6 +303,10 @@ class Histories(unittest.TestCase):
                        "task 0 request 1 ran 1 command", "task 0 request 1 posted 7F, CSW 001038 0C00 0000, sense 0000"]
             lines = printer.history().splitlines()
             self.assertEqual([re.sub(r"^#? *\d+ ", "", it) for it in lines if not it.startswith("# unit")], entries)
+            self.assertIn("  print, space 1\n", printer.history(most_steps=1))
+            whats = [json.loads(it)["what"] for it in printer.record(most_steps=1).splitlines()]
+            self.assertEqual(whats, ["unit", "opened", "arrived", "started", "ran", "step", "posted", "medium", "line"])
+            self.assertNotIn('"step"', printer.record())
 
 
 class Mistakes(unittest.TestCase):
