@@ -578,17 +578,21 @@ def signal_ends_what_is_unread(setup):
     script = "\n".join(["tasks 1", "tape 0 0 400000", *5 * [f"block 0 {'C1' * 65535}"], "wait 0", ""])
     for form in [], ["--steps"], ["--json"], ["--html"]:
         for sent in signal.SIGTERM, signal.SIGINT, signal.SIGHUP:
-            with tempfile.TemporaryDirectory(prefix="targets-") as folder:
+            with tempfile.TemporaryDirectory(prefix="targets-") as folder, tempfile.TemporaryFile() as given:
+                given.write(script.encode())
+                given.seek(0)
+                reader, writer = os.pipe()
                 command = setup.command("report", *form, "--save", "0=saved")
-                words = {"stdin": subprocess.PIPE, "stdout": subprocess.PIPE, "stderr": subprocess.PIPE, "cwd": folder}
-                with subprocess.Popen(command, **words) as it:
-                    it.stdin.write(script.encode())
-                    it.stdin.close()
-                    it.stdout.read(1)
+                # these tests may run where the signal is ignored
+                with subprocess.Popen(command, stdin=given, stdout=writer, stderr=subprocess.PIPE, cwd=folder,
+                                      preexec_fn=lambda s=sent: signal.signal(s, signal.SIG_DFL)) as it:
+                    os.close(writer)
+                    os.read(reader, 1)
                     it.send_signal(sent)
                     # the program has the same standard error
-                    said = it.stderr.read()
-                require((it.wait(SECONDS), said) == (-sent, b""), f"status {it.returncode} after {sent.name}: {said}")
+                    said = it.communicate(timeout=SECONDS)[1]
+                    os.close(reader)
+                require((it.returncode, said) == (-sent, b""), f"status {it.returncode} after {sent.name}: {said}")
                 require(os.listdir(folder) == [], f"left after {sent.name}: {os.listdir(folder)}")
 
 
