@@ -283,22 +283,24 @@ def programs(setup):
         yield f"{name}: each later growth fails too", it
     name, it = plan("run", prints_all_or_nothing, STORED, POSTS, "--channels", "4", "--handlers", "3", kind="thread", calls=4, least=2)
     yield f"{name}: threads", it
-    yield plan("report", prints_all_or_nothing, f"{SAMPLES}/read.script", f"{SAMPLES}/read.report")
-    name, it = plan("report", reports_threads, f"{SAMPLES}/read.script", f"{SAMPLES}/read.report", kind="thread", calls=1)
-    yield f"{name}: threads", it
-    programs_end = f"{SAMPLES}/how-programs-end"
-    yield plan("report", prints_a_part, f"{programs_end}.script", f"{programs_end}.steps", "form=steps")
-    # the groups listing, reports and pages judge these texts
+    # the groups histories, reports and pages judge what the package makes of these records
     scenarios = f"{SAMPLES}/scenarios/halt-an-active-request.scenario", f"{CASES}/scenarios/purge_of_one_task_over_units_halt.scenario"
-    for word, script in ("report", f"{programs_end}.script"), *(("step", it) for it in scenarios):
-        for form in "json", "html":
-            whole = setup.run(word, f"--{form}", file=script).out
-            words = [setup.tools, word, "title=<stdin>", f"form={form}"]
-            yield f"{word} {os.path.relpath(script, TOP)} {form}", Plan(words, prints_a_part, script, whole)
+    for word, form, script in (
+        ("report", "events", f"{SAMPLES}/read.script"),
+        *(("report", it, f"{SAMPLES}/how-programs-end.script") for it in ("posts", "steps")),
+        *(("step", "steps", it) for it in scenarios),
+    ):
+        words = [setup.tools, word, f"form={form}"]
+        name, whole = f"{word} {form} {os.path.relpath(script, TOP)}", run(words, read(script)).out
+        yield name, Plan(words, prints_a_part, script, whole)
+        if form == "events":
+            yield f"{name}: threads", Plan(words, reports_threads, script, whole, kind="thread", calls=1)
     script, text = f"{CASES}/refusals/images.script", f"{CASES}/refusals/images.posts"
     files = [*(f"load={unit}={{{name}}}={name}" for unit, name in enumerate(IMAGES)), *(f"save={unit}={{{SAVED[name]}}}={name}" for unit, name in enumerate(IMAGES))]
     opened = {**dict.fromkeys(IMAGES, os.O_RDONLY), **dict.fromkeys(SAVED.values(), os.O_WRONLY | os.O_CREAT)}
-    yield plan("report", fills_or_lacks, script, text, "form=posts", *files, files=IMAGES, opened=opened, least=2)
+    name, it = plan("report", fills_or_lacks, script, text, "form=posts", *files, files=IMAGES, opened=opened, least=2)
+    # the record of these posts
+    yield name, replace(it, text=it.run(0)[0].out)
     loads = ["--load", "0=tape", "--load", "1=disk", "--save", "0=saved_tape", "--save", "1=saved_disk"]
     words = setup.command("report", "--posts", *loads)
     for kind, judge, least in ("file", saves_one_or_all, 2), ("kill", is_killed_whole, 1):

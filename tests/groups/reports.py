@@ -13,7 +13,9 @@ import json
 import os
 import random
 import re
+import signal
 import struct
+import sys
 import tempfile
 
 import commands
@@ -302,6 +304,38 @@ def writes_to_its_end(setup, word, file):
     expect(ran, (1, "", "excp: output not written\n"))
 
 
+# A program in the place of excp_tools, which prints a part of its record.
+CUT = """#!PYTHON
+import os, signal, subprocess, sys
+whole = subprocess.run(["TOOLS", *sys.argv[1:]], stdout=subprocess.PIPE).stdout
+sys.stdout.buffer.write(whole[: len(whole) * 3 // 4])
+sys.stdout.flush()
+END
+"""
+
+# How that program ends, and the status and the text of the command then.
+CUT_ENDS = {
+    "print('excp: out of memory', file=sys.stderr); sys.exit(3)": (3, "excp: out of memory\n"),
+    "os.kill(os.getpid(), signal.SIGKILL)": (128 + signal.SIGKILL, ""),
+    "print('\\n{}')": (3, "excp: error of this program: a record of the program has another form; please report it with the script\n"),
+}
+
+
+def is_cut_short(setup, end):
+    """Of a record that is not whole, JSON and page print nothing, and text at most a part."""
+    script = read(f"{SAMPLES}/how-programs-end.script")
+    with tempfile.TemporaryDirectory() as folder:
+        program = f"{folder}/excp_tools"
+        with open(program, "w", encoding="utf-8") as it:
+            it.write(CUT.replace("PYTHON", sys.executable).replace("TOOLS", setup.tools).replace("END", end))
+        os.chmod(program, 0o755)
+        for form in "--json", "--html", "--posts", "--steps":
+            ran = run([sys.executable, f"{TOP}/tests/package.py", program, "report", form], script)
+            require((ran.status, ran.err) == CUT_ENDS[end], "another end", ran)
+            whole = "" if form in ("--json", "--html") else setup.run("report", form, script=script).out
+            require(whole.startswith(ran.out) and len(ran.out) <= len(whole), "more than a part", ran)
+
+
 def stored():
     """The names, scripts and stored texts of scripts that run."""
     for file in sorted(glob.glob(f"{SAMPLES}/*.script")):
@@ -334,6 +368,8 @@ def cases(setup):
     yield Case("hostile names and bytes", lambda: escapes(setup), f"{ORIGIN}, and Python's cp037")
     yield Case("a disk over the bound", lambda: is_bounded(setup, large_disk, reports.WHOLE_BYTES - 16 * 63000, [3, 5]), ORIGIN)
     yield Case("a tape over the bound", lambda: is_bounded(setup, large_tape, reports.WHOLE_BYTES - 16 * 65535, [1, 2]), ORIGIN)
+    for end in CUT_ENDS:
+        yield Case(f"a record that is cut short: {end}", lambda e=end: is_cut_short(setup, e), ORIGIN)
     for word, file in (("report", f"{SAMPLES}/read-a-tape.script"), ("step", HALT)):
         yield Case(f"a writer that fails: {word}", lambda w=word, f=file: writes_to_its_end(setup, w, f), "docs/MANUAL.md")
     yield from scenario_cases(setup)

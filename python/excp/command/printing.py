@@ -13,9 +13,9 @@ from typing import IO, Callable, Iterable, Iterator, Optional
 from ..reporting.kept import NotKept
 from ..reporting.record import Record
 from .forms import Form
-from .handing import handed
 from .streams import (
-    FAILED, OUT_OF_MEMORY, OUTPUT, Ended, error_of_program, takes_colour, write_output,
+    FAILED, OUT_OF_MEMORY, OUTPUT, Ended, NotWritten, error_of_program, is_open, takes_colour,
+    write_output,
 )
 
 # A comment of a script, and it in faint letters, as terminals take them (ECMA-48, "SGR").
@@ -41,7 +41,7 @@ class Printing:
         self.failure: Optional[Exception] = None
         self._form, self._is_awaited = form, is_awaited
         self._is_faint = form.has_comments and takes_colour(OUTPUT)
-        self._output = _held_output()
+        self._has_output = is_open(OUTPUT)
         self._status: queue.SimpleQueue[int] = queue.SimpleQueue()
 
     def begin(self, output: IO[bytes], wake: Callable[[], None]) -> None:
@@ -85,20 +85,11 @@ class Printing:
         parts = (piece.encode() for piece in pieces)
         # without a record nothing is printed, whatever the output is
         for part in parts:
-            if self._output is None:
-                raise Ended("output not written")
-            write_output(chain([part], parts), self._output)
+            if not self._has_output:
+                raise NotWritten
+            write_output(chain([part], parts))
         if record.what is not None:
             raise ValueError("lines after the end of a record")
-
-
-def _held_output() -> Optional[int]:
-    """A descriptor of standard output that no file gets which is opened later; None if it is
-    closed."""
-    try:
-        return handed(OUTPUT)
-    except OSError:
-        return None
 
 
 def _as_end(error: Exception) -> Exception:

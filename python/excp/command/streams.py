@@ -39,6 +39,13 @@ class Ended(Exception):
         self.status = status
 
 
+class NotWritten(Ended):
+    """Standard output cannot be written."""
+
+    def __init__(self) -> None:
+        super().__init__("output not written")
+
+
 class Rejected(Exception):
     """What was read is rejected, and the findings in it are printed."""
 
@@ -103,16 +110,24 @@ def error_of_program(what: str) -> Ended:
     return Ended(f"error of this program: {what}; please report it with the script", FAILED)
 
 
-def write_output(parts: Iterable[bytes], stream: int = OUTPUT) -> None:
-    """Writes to standard output, which may have this number too. Raises Ended, and ReaderGone if
-    nothing reads it."""
+def is_open(stream: int) -> bool:
+    """Whether a stream is open. The number of one that is closed may become that of a file."""
     try:
-        with open(stream, "wb", closefd=False) as output:
+        os.fstat(stream)
+    except OSError:
+        return False
+    return True
+
+
+def write_output(parts: Iterable[bytes]) -> None:
+    """Writes to standard output. Raises Ended, and ReaderGone if nothing reads it."""
+    try:
+        with open(OUTPUT, "wb", closefd=False) as output:
             output.writelines(parts)
     except BrokenPipeError:
         raise ReaderGone from None
     except OSError:
-        raise Ended("output not written") from None
+        raise NotWritten from None
 
 
 def print_findings(findings: Iterable[Finding], file: Optional[str], stream: int) -> None:
