@@ -40,7 +40,7 @@ def ccw_names(device: str, image: str, continues_data: bool) -> CcwNames:
     return _names(device, code, int(image[8:10], 16))
 
 
-@lru_cache(maxsize=None)
+@lru_cache(maxsize=1024)
 def _names(device: str, code: Optional[int], bits: int) -> CcwNames:
     flags = [name for name, flag in FLAGS.items() if bits & flag]
     if code is None:

@@ -20,7 +20,7 @@ _CCW = re.compile(r'\{"at":"[0-9A-F]{6}","image":"([0-9A-F]{16})"\}')
 
 
 # How many lists of steps are at hand that came last.
-_RECENT = 256
+_RECENT = 16
 
 
 class StepLists:

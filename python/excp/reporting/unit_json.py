@@ -91,7 +91,7 @@ class _Unit:
 
 
 # equal programs have equal lines
-@lru_cache(maxsize=256)
+@lru_cache(maxsize=16)
 def _steps_of(lines: Tuple[str, ...]) -> Tuple[Tuple[Step, ...], FrozenSet[str]]:
     """The steps of some lines, and the parts of the medium that they touched."""
     steps = tuple(map(step_of, lines))
