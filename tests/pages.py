@@ -16,8 +16,9 @@ ELEMENTS = set("html head meta title style body header h1 noscript p main sectio
 
 POLICY = "default-src 'none'; base-uri 'none'; form-action 'none'; style-src '{}'; script-src '{}'"
 
-# How many steps of an attempt, and requests that something ended, a panel shows.
+# How many steps of an attempt, starts of a request, and requests that something ended, a panel shows.
 FIRST_STEPS = 120
+STARTS = 4
 NAMED = 40
 
 SENSE = {0x8000: "command reject", 0x4000: "intervention required", 0x1000: "equipment check", 0x0800: "data check",
@@ -131,15 +132,24 @@ def strips_of(unit):
     return sum(found[dcb] for dcb in sorted(found)[:STRIPS])
 
 
+def numbers_of(run):
+    """The number that the page has for each event, by its unit and entry: its place on the axis, or nothing if it is of the set-up."""
+    places = {(unit["unit"], it["entry"]): it.get("column", it.get("at")) for unit in run["units"] for it in unit["events"]}
+    numbers = {event: f"{number:,}" for number, event in enumerate(sorted(filter(places.get, places), key=places.get), 1)}
+    return collections.defaultdict(str, numbers)
+
+
 def requests_of(run):
     """Of each request its name on the page, its events, its post if it was collected, and the name of what ended it."""
     collected = {(it["task"], it["unit"], it["request"]): it for it in run["posts"]}
+    numbers = numbers_of(run)
     for unit in run["units"]:
         entries = {event["entry"]: event for event in unit["events"]}
         of = {}
         for event in unit["events"]:
             if "request" in event:
-                of.setdefault((event["task"], event["request"]), []).append(event)
+                numbered = {**event, "number": numbers[unit["unit"], event["entry"]]}
+                of.setdefault((event["task"], event["request"]), []).append(numbered)
         for (task, number), events in of.items():
             end = next((event for event in events if event["what"] == "posted"), None)
             by = entries.get(end["doomed_by"]) if end else None
@@ -195,17 +205,31 @@ def steps_in_words(steps):
             yield f"× {step['times']:,}"
 
 
+def starts_in_words(events):
+    """The starts that a panel has, each with the commands of its attempt, and what it says of those that it leaves out."""
+    starts = []
+    for event in events:
+        if event["what"] == "started":
+            again = f" again, attempt {event['attempt']}" if event["attempt"] > 1 else ""
+            starts.append([f"{event['number']}started{again}", 0])
+        elif event["what"] == "ran":
+            starts[-1][1] += event["commands"]
+    words = [start + (f"ran {commands:,} command" if commands else "") for start, commands in starts]
+    if len(words) > STARTS:
+        words[STARTS - 1 : -1] = [f"{len(words) - STARTS} more start"]
+    return words
+
+
 def check_panel(run, request, panel):
     """Fails if the panel of a request lacks its code, an entry, its CSW, its IOB, a step, or a link to what ended it."""
     name, unit, events, end, post, cause = request
     title, text, links, places = panel
     require(title.startswith(end["code"] if end else "–"), f"{name} has the title {title}")
-    starts = [event["entry"] for event in events if event["what"] == "started"]
     arrival = events[0]
-    due = [f"{arrival['entry']:,}arrived for DCB {arrival['dcb']}", f"program at {arrival['start']}",
-           *([seek_in_words(arrival["seek"])] if unit["kind"] == "disk" else [])]
-    due += [f"{entry:,}started" for entry in starts[:1] + starts[-1:]] + ([f"{end['entry']:,}posted {end['code']}"] if end else [])
+    due = [f"{arrival['number']}arrived for DCB {arrival['dcb']}", f"program at {arrival['start']}",
+           *([seek_in_words(arrival["seek"])] if unit["kind"] == "disk" else []), *starts_in_words(events)]
     if end:
+        due.append(f"{end['number']}posted {end['code']}")
         due += [f"CCW address{end['address']}", f"unit status{end['status'][:2]}", f"subchannel{end['status'][2:]}",
                 f"residual{end['residual']}", f"sense{end['sense']}{', '.join(sense_names(end['sense']))}"]
     if post:

@@ -300,6 +300,80 @@ OUTSIDE = """[...document.querySelectorAll('.lane.task')].reduce((sum, lane) => 
 }, 0)"""
 
 
+# A search for a key with blanks, which fails the first time, and another request that it dooms.
+BLANKS = """tasks 1
+disk 0 0 1 1 200
+rec 0 0 0 1 key C'A   B' data C'FOUND'
+open 0 in all
+area 0 001000
+IOB: IOB ecb=ECB start=CP dcb=1 seek=0,0,1 related
+ECB: ECB
+CP: SKE KEY,L'KEY,CC
+ TIC CP
+ RD DATA,5
+KEY: DC C'A   B'
+DATA: DS 5
+LOST: IOB ecb=ECB start=LOOK dcb=1 seek=0,0,1 related
+LOOK: SKE OTHER,L'OTHER,CC
+ TIC LOOK
+OTHER: DC C'A  BB'
+endarea
+excp 0 0 1 IOB 0 DATA 5
+excp 0 0 1 LOST 0 DATA 5
+excp 0 0 1 IOB 0 DATA 5
+wait 0
+"""
+
+# What is left of a hint after each way to move what it is of: points at a bar, or goes to one by a key, and moves.
+HINTS = """(async () => {
+  const frame = () => new Promise(done => requestAnimationFrame(() => requestAnimationFrame(done)));
+  const tip = document.querySelector('.tip');
+  const point = () => document.querySelector('.drawing .bar .run').dispatchEvent(new PointerEvent('pointermove', {bubbles: true, clientX: 300, clientY: 300}));
+  const lanes = document.querySelector('.scroller');
+  const key = (name) => lanes.dispatchEvent(new KeyboardEvent('keydown', {key: name, bubbles: true}));
+  const moves = {
+    wheel: () => lanes.dispatchEvent(new WheelEvent('wheel', {bubbles: true})),
+    scroll: () => scrollBy(0, 50),
+    zoom: () => key('+'),
+    leave: () => document.documentElement.dispatchEvent(new PointerEvent('pointerleave')),
+    blur: () => { lanes.focus(); lanes.blur(); },
+  };
+  const left = [];
+  for (const [name, move] of Object.entries(moves)) {
+    for (const show of [point, () => { lanes.focus(); key('Home'); }]) {
+      show();
+      await frame();
+      if (tip.hidden) left.push(`${name}: no hint`);
+      move();
+      await frame();
+      if (!tip.hidden) left.push(name);
+      lanes.blur();
+    }
+  }
+  return left;
+})()"""
+
+# The colours of waits, and of bars.
+COLOURS = """['.drawing .wait', '.legend .wait', '.drawing .run'].map(name => [...new Set([...document.querySelectorAll(name)].map(it =>
+  name.endsWith('wait') ? getComputedStyle(it).stroke : it.closest('.bar').className.baseVal))])"""
+
+
+def keeps_blanks_and_hides_hints(setup):
+    """Keys keep their blanks, a wait has one colour whatever its code, and no hint stays where what it is of is no more."""
+    with tempfile.TemporaryDirectory() as folder, browser.Browser() as it:
+        it.open(written(folder, page_of(setup, "report", "--html", script=BLANKS)), "#q0-0-1", height=500)
+        texts = [it.value("document.querySelector('aside.panel').innerText")]
+        it.value(PANELS % '["q0-0-2"]')
+        texts.append(it.value("document.querySelector('aside.panel').innerText"))
+        for text, words in zip(texts, ("key C1404040C2 |A   B|", "|A  BB| on track"), strict=True):
+            require(words in text.replace("\u00a0", " "), f"a panel has no {words!r}: {text}")
+        it.value("document.querySelector('[aria-label^=Close]').click()")
+        waits, legend, bars = it.value(COLOURS)
+        require(len(waits) == 1 and waits == legend and len(bars) > 1, f"waits have {waits} and {legend}, bars are {bars}")
+        left = it.value(HINTS)
+        require(not left and not it.said, f"hints stay after {left}; on the console: {it.said[:3]}")
+
+
 def leads_to_what_was_there(setup):
     """No link leads to a record or block that came later to the place of another one. Each dot is in its wait."""
     with tempfile.TemporaryDirectory() as folder, browser.Browser() as it:
@@ -385,6 +459,7 @@ def cases(setup):
         part = all_sheets[at : at + SHEAF]
         yield Case(f"in a browser, from {part[0][0]}", lambda p=part: opened(setup, p), f"{ORIGIN}, and Chromium")
     yield Case("in a browser, records that are gone", lambda: leads_to_what_was_there(setup), ORIGIN)
+    yield Case("in a browser, blanks and hints", lambda: keeps_blanks_and_hides_hints(setup), ORIGIN)
     yield Case("in a browser, a broken address", lambda: notices(setup), ORIGIN)
     yield Case("in a browser, a tape over the bound", lambda: says_its_bound(setup), ORIGIN)
     yield Case("in a browser, hostile texts", lambda: stays_text(setup), f"{ORIGIN}, and the HTML standard")

@@ -68,6 +68,17 @@ function postOf(model, { task, unit, number }) {
   return model.posts.get(keyOf(task, unit, number));
 }
 
+/**
+ * The attempts of a request: each start, and the turns of its program up to the next one.
+ * @returns {{number: number, start: Moment, runs: Moment[]}[]}
+ */
+function attemptsOf({ starts, runs }) {
+  return starts.map((start, place) => {
+    const next = starts[place + 1]?.column ?? Infinity;
+    return { number: place + 1, start, runs: runs.filter(({ column }) => column >= start.column && column < next) };
+  });
+}
+
 /** The steps of a `ran`. */
 const stepsOf = (model, { steps }) => restOf(model).steps[steps];
 

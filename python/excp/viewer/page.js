@@ -1,6 +1,8 @@
 /** @file The page: what is where, the selection, keys and hints. */
 
 const ZOOM = 1.6;
+/** After these events a hint may be at another place than what it is of. */
+const MOVES = ["scroll", "wheel", "keydown", "pointerdown", "focusout", "resize"];
 
 class Page {
   constructor(run) {
@@ -152,6 +154,8 @@ class Page {
     addEventListener("keydown", (event) => this.press(event));
     addEventListener("beforeprint", () => { this.close(); this.afterPrint = preparePrint(this); });
     addEventListener("afterprint", () => this.afterPrint?.());
+    for (const name of MOVES) addEventListener(name, () => this.hint(null), { capture: true, passive: true });
+    document.documentElement.addEventListener("pointerleave", () => this.hint(null));
     document.addEventListener("pointerover", (event) => {
       const words = event.target.closest?.("[data-tip]")?.getAttribute("data-tip");
       if (words) this.hint(words.split("\n"), event.clientX, event.clientY);
@@ -163,7 +167,7 @@ class Page {
     if (event.ctrlKey || event.altKey || event.metaKey || event.target.matches?.("input, select")) return;
     const isInPanel = this.panel.contains(document.activeElement);
     const action = {
-      Escape: () => { this.hint(null); this.close(); },
+      Escape: () => this.close(),
       "+": () => this.lanes.zoom(ZOOM),
       "=": () => this.lanes.zoom(ZOOM),
       "-": () => this.lanes.zoom(1 / ZOOM),

@@ -33,11 +33,11 @@ function requestPanel(model, request) {
   return {
     title: [chip(request.code), ` ${longName(request)} · ${kind} · ${endInWords(request)}`],
     content: [
-      el("div", null, part("Its entries", lifeOf(request, kind)), request.end ? part("CSW and sense", cswOf(request)) : null),
+      el("div", null, part("Its events", lifeOf(request, kind)), request.end ? part("CSW and sense", cswOf(request)) : null),
       el("div", null, part("IOB as posted", post ? iobOf(post) : el("p", { class: "dim" }, noPost)),
         request.code === "42" ? part("Extents of its DCB", extentsOf(model, request)) : null,
         post?.shown ? part(`${counted(post.shown.length / 2, "byte")} shown`, hexOfBytes(post.shown)) : null),
-      el("div", { class: "program" }, attemptsOf(model, request)),
+      el("div", { class: "program" }, stepsOfAttempts(model, request)),
     ],
   };
 }
@@ -49,31 +49,44 @@ const rows = (list) => el("table", { class: "facts" }, list.filter(Boolean).map(
 /** The track and the record of MBBCCHHR. */
 const seekInWords = (seek) => `cylinder ${bitsOf(seek.slice(6, 10))}, head ${bitsOf(seek.slice(10, 14))}, R${bitsOf(seek.slice(14))}`;
 
+/** The number of an event; nothing for one of the set-up. */
+const eventNumber = ({ column }) => (column ? many(column) : "");
+
 function lifeOf(request, kind) {
   const { arrival, starts, end, halted, doom, dooms } = request;
   const { dcb, related, seek, start } = arrival.event;
-  const entry = ({ event }) => many(event.entry);
-  const shown = starts.filter((_, place) => starts.length <= MOST_STARTS || place < MOST_STARTS - 1 || place === starts.length - 1);
   const code = end && el("b", { class: `t${request.code}` }, request.code);
   return [
     rows([
-      [entry(arrival), `arrived for DCB ${dcb}, ${related ? "related" : "unrelated"}`],
+      [eventNumber(arrival), `arrived for DCB ${dcb}, ${related ? "related" : "unrelated"}`],
       ["", `program at ${start}`],
       kind === "disk" ? ["", `seeks ${seekInWords(seek)}`] : null,
-      ...shown.map((it) => [entry(it), it.event.attempt > 1 ? `started again, attempt ${it.event.attempt}` : "started"]),
-      request.commands ? ["", `ran ${counted(request.commands, "command")}`] : null,
-      halted ? [entry(halted), "halted"] : null,
-      end ? [entry(end), ["posted ", code, starts.length ? "" : ", not started"]] : null,
+      ...startsOf(request),
+      halted ? [eventNumber(halted), "halted"] : null,
+      end ? [eventNumber(end), ["posted ", code, starts.length ? "" : ", not started"]] : null,
     ]),
     end?.event.why ? el("p", null, whyInWords(end.event.why), doom ? [" ", doomerOf(doom)] : null) : null,
     dooms.length ? el("p", null, "Its error ended ", linksTo(dooms), ".") : null,
   ];
 }
 
+/** The rows of the first starts and of the last one, each with the commands of its attempt, and one for those between. */
+function startsOf(request) {
+  const attempts = attemptsOf(request);
+  const list = attempts.map(({ number, start, runs }) => {
+    const commands = runs.reduce((sum, { event }) => sum + event.commands, 0);
+    return [[eventNumber(start), number > 1 ? `started again, attempt ${number}` : "started"],
+      commands ? ["", `ran ${counted(commands, "command")}`] : null];
+  });
+  const leftOut = list.length - MOST_STARTS;
+  if (leftOut > 0) list.splice(MOST_STARTS - 1, leftOut, [["…", `${counted(leftOut, "more start")}, attempts ${MOST_STARTS} to ${list.length - 1}`]]);
+  return list.flat();
+}
+
 function doomerOf({ request, mark }) {
   if (request) return ["By ", linkTo(request), `, posted ${request.code}.`];
   if (!mark) return null;
-  return ["Entry ", many(mark.event.entry), ": ", linkTo(mark, markInWords(mark)), mark.by === null ? "." : `, by task ${mark.by}.`];
+  return ["Event ", eventNumber(mark.moment), ": ", linkTo(mark, markInWords(mark)), mark.by === null ? "." : `, by task ${mark.by}.`];
 }
 
 function cswOf(request) {
@@ -111,7 +124,7 @@ function markPanel(model, mark) {
   return {
     title: [`${markInWords(mark)} · unit ${unit}`],
     content: [part("What it did",
-      el("p", null, `Entry ${many(event.entry)} of unit ${unit}${by === null ? "" : `, given by task ${by}`}.`),
+      el("p", null, `Event ${eventNumber(mark.moment)}${by === null ? "" : `, by task ${by}`}.`),
       event.what === "purge" ? el("p", null, activeAt(model, mark)) : null,
       event.what === "opened" ? null : el("p", null, dooms.length ? ["It ended ", linksTo(dooms), "."] : "It ended no request."))],
   };
@@ -129,7 +142,7 @@ const tipOf = (thing) => (thing.event ? tipOfMark(thing) : tipOfRequest(thing)).
 
 const tipOfMark = (mark) => [
   `${markInWords(mark)} · unit ${mark.unit}`,
-  `entry ${many(mark.event.entry)}, event ${many(mark.moment.column)}${mark.by === null ? "" : `, by task ${mark.by}`}`,
+  `event ${eventNumber(mark.moment)}${mark.by === null ? "" : `, by task ${mark.by}`}`,
   mark.dooms.length ? `ended ${counted(mark.dooms.length, "request")}` : "",
 ];
 

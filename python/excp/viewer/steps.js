@@ -4,14 +4,10 @@
 const FIRST_STEPS = 120;
 const LAST_STEPS = 40;
 
-/** The attempts of a request; those with equal steps in a row are one. */
-function attemptsOf(model, request) {
+/** The steps of the attempts of a request; those with equal steps in a row are one. */
+function stepsOfAttempts(model, request) {
   if (!request.runs.length) return [];
-  const attempts = request.starts.map((start, place) => {
-    const next = request.starts[place + 1]?.column ?? Infinity;
-    return { number: place + 1, runs: request.runs.filter(({ column }) => column >= start.column && column < next) };
-  });
-  return sameInARow(model, attempts).map(({ numbers, runs }) => {
+  return sameInARow(model, attemptsOf(request)).map(({ numbers, runs }) => {
     const title = request.starts.length > 1 ? `Attempt${numbers.length > 1 ? "s" : ""} ${rangeOf(numbers)}` : "Steps";
     const steps = joinLoops(runs.flatMap(({ event }) => stepsOf(model, event)));
     const isLeftOut = runs.some(({ event }) => event.left_out);

@@ -4,7 +4,7 @@ const HISTORY = 500;
 
 /** A unit. Its medium is drawn when it comes into view. */
 function unitSection(model, unit) {
-  const { unit: id, kind, isc, entries } = unit;
+  const { unit: id, kind, isc, events } = unit;
   const tally = model.unitTallies[id];
   const codes = tally.requests ? `: ${codesInWords(tally.codes)}` : "";
   const section = el("section", { class: "unit", id: `unit${id}`, style: { minHeight: "120px" } },
@@ -12,16 +12,17 @@ function unitSection(model, unit) {
   return whenSeen(section, () => {
     const { words, parts, show } = mediumOf(unit);
     section.show = show;
-    section.append(...[el("p", null, words), ...parts, entries ? historyOf(model, unit) : null].filter(Boolean));
+    section.append(...[el("p", null, words), ...parts, events.length ? historyOf(model, unit) : null].filter(Boolean));
   });
 }
 
-function historyOf(model, { unit, events, entries }) {
-  return fold(`History: ${counted(entries, "entry", "entries")}`, () => {
+/** The events of a unit. Those of the set-up have no number. */
+function historyOf(model, { unit, events }) {
+  return fold(`History: ${counted(events.length, "event")}`, () => {
     const lines = el("div", { class: "history code" });
     inPortions(lines, events.length, HISTORY, "events", (place) => {
-      const { entry } = events[place];
-      return el("div", null, el("span", { class: "dim" }, String(entry).padStart(6)), "  ", eventInWords(model.moments[unit].get(entry)));
+      const moment = model.moments[unit].get(events[place].entry);
+      return el("div", null, el("span", { class: "dim" }, eventNumber(moment).padStart(6)), "  ", eventInWords(moment));
     });
     return lines;
   });
