@@ -18,7 +18,7 @@ pub enum Part {
     Posts,
     /// All but the commands of channel programs.
     Events,
-    /// All, with the first commands of each unit, as many as this.
+    /// All, with at most this number of commands of each unit, the first ones.
     Steps(u64),
 }
 
