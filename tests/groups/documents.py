@@ -2,10 +2,11 @@
 examples; and whether the mutants still apply.
 
 tests/sentences measures the sentences, and tests/definitions finds names of definitions that several crates have. tests/closure
-has the definitions that the headline rests on, tests/lines the tables of the lines of a script. The layers of crates.txt, the steps of a request in ARCHITECTURE.md and the code
-that CLIENT.md and ADDING-A-DEVICE.md quote are compared with the sources, and so is what crates.txt lists. tests/comments measures
-the comments of the code, and finds phrases of tests/phrases. tools/refusals.py finds what each call rejects in its comment. tests/edits applies the mutants to the code as it is.
-tests/examples.py has the jobs and the commands of the pages. mypy, if it is installed, checks the types of python/excp. A README that names another kit is a warning.
+has the definitions that the headline rests on, tests/lines the tables of the lines of a script. The layers of crates.txt, the steps
+and crates in ARCHITECTURE.md and the code that CLIENT.md and ADDING-A-DEVICE.md quote are compared with the sources, and so is what
+crates.txt lists. tests/comments measures the comments of the code, and finds phrases of tests/phrases. tools/refusals.py finds what
+each call rejects in its comment. tests/edits applies the mutants to the code as it is. tests/examples.py has the jobs and the
+commands of the pages. mypy, if it is installed, checks the types of python/excp. A README that names another kit is a warning.
 """
 
 import os
@@ -114,20 +115,35 @@ def lists_what_is_used():
 PAGES = ["README.md", "CONTRIBUTING.md", "CHANGELOG.md", "samples/README.md"]
 PAGES += [f"docs/{it}" for it in sorted(os.listdir(f"{TOP}/docs")) if it.endswith(".md")]
 
-STEP = re.compile(r"^\| (\d+) \| .+ \| (`.+`) \| (.+) \|$", re.M)
+STEP = re.compile(r"^\| (\d+\.?) \| .+ \| (`.+`) \| (.+) \|$", re.M)
 
 
 def steps_hold():
-    """Each step of a request names functions that are in the files that it names."""
+    """Each step of a request, and of a job, names functions or types that are in the files that it names."""
     steps = STEP.findall(read(f"{TOP}/docs/ARCHITECTURE.md"))
-    require([int(it[0]) for it in steps] == list(range(1, 26)), "ARCHITECTURE.md has no steps 1 to 25")
+    due = [f"{it}" for it in range(1, 26)] + [f"{it}." for it in range(1, 10)]
+    require([it[0] for it in steps] == due, "ARCHITECTURE.md has no steps 1 to 25 of a request, or 1 to 9 of a job")
     for number, names, files in steps:
-        names, files = names.split(", "), files.split("; ")
-        require(len(names) == len(files), f"step {number}: {len(names)} functions and {len(files)} files")
-        for name, file in zip(names, files):
+        names, files = re.split("[,;] ", names), files.split("; ")
+        require(len(files) in (1, len(names)), f"step {number}: {len(names)} functions and {len(files)} files")
+        for name, file in zip(names, files if len(files) > 1 else files * len(names)):
             crate, _, path = file.partition(": ")
-            function = name.strip("`").rpartition("::")[2]
-            require(re.search(rf"\bfn {function}\b", read(f"{TOP}/crates/{crate}/src/{path}")), f"step {number}: no fn {function} in {file}")
+            item = name.strip("`").rpartition("::")[2]
+            code = read(f"{TOP}/crates/{crate}/src/{path}")
+            require(re.search(rf"\b(fn|struct|trait) {item}\b", code), f"step {number}: no {item} in {file}")
+
+
+def crates_are_listed():
+    """The list of crates in ARCHITECTURE.md has each crate of crates.txt once, in its layer, and no other."""
+    layers, _ = listed()
+    text = read(f"{TOP}/docs/ARCHITECTURE.md").partition("## Crates, by layer\n")[2].partition("\n## ")[0]
+    found = []
+    for part in re.split(r"^\*\*(?=\w)", text, flags=re.M)[1:]:
+        layer = re.match(r"[\w/]+", part)[0]
+        for names in re.findall(r"^- ((?:\*\*\w+\*\*(?:, )?)+):", part, re.M):
+            found += [(name, layer) for name in re.findall(r"\w+", names)]
+    crates = sorted((name, layer) for name, layer in found if layer != "python/excp")
+    require(crates == sorted(layers.items()), f"they differ in {sorted({*crates} ^ {*layers.items()})}")
 
 
 # The pages that quote code, and a block of code in them, behind a line that ends with its file.
@@ -198,6 +214,7 @@ def cases(setup):
     yield Case("what crates.txt lists", lists_what_is_used, "crates.txt, by the sources")
     yield Case("commands left out", lambda: left_out_is_rejected(setup), "docs/SPECIFICATION.md, 8.8")
     yield Case("steps of a request", steps_hold, "docs/ARCHITECTURE.md, by the sources")
+    yield Case("the list of crates", crates_are_listed, "docs/ARCHITECTURE.md, by crates.txt")
     for page in QUOTING:
         yield Case(f"quotes of {page}", lambda page=page: quotes_hold(page), f"docs/{page}, by the sources")
     yield Case("comments", lambda: passes("comments"), "tests/comments and tests/phrases, by CONTRIBUTING.md")
