@@ -4,6 +4,7 @@
   comes of a sample prints its posts.
 - So do listings of programs at random, with valid and odd IOBs, CCWs and data.
 - `tests/cases/listing/*.listing` has scripts and their listings, written by hand.
+- A job in symbols has the names and lines of its addresses, and the areas of its requests, as they are written in MAPPED and NAMES.
 """
 
 import os
@@ -30,6 +31,61 @@ UNITS = [
 
 # The flags of CCWs: most chain commands or data, and one in ten has a bit that no word names.
 FLAGS = bytes.fromhex("00 20 04 40 40 40 40 40 40 60 60 48 44 44 80 80 90 84 41 02")
+
+
+# A job whose labels overlap, and of addresses of its first area: the label, the operand, and the line that has set the byte.
+MAPPED = """tasks 2
+tape 0 0 100
+open 0 in
+area 0
+IOB:    IOB   ecb=ECB start=CP dcb=1   ; 001000 to 001027
+ECB:    ECB                            ; 001028
+ALONE:
+CP:     RDF   BUFFER,16                ; 001030
+        NOP                            ; 001038
+BUFFER: DS    16                       ; 001040
+        ORG   BUFFER
+FIRST:  DC    C'A;B'                   ; 001040 to 001042
+END:
+endarea
+area 1 002000 4040
+excp 0 0 1 IOB 0 BUFFER 16
+excp 1 0 1 001000 1 001000 0
+excp 0 0 1 001000 1 001000 0
+"""
+NAMES = {
+    0x000FFF: (None, None, None),
+    0x001000: ("IOB", "IOB", 5),
+    0x001012: (None, "IOB+18", 5),
+    0x00102C: ("ALONE", "ALONE", None),
+    0x001030: ("CP", "CP", 8),
+    0x001037: (None, "CP+7", 8),
+    0x001038: (None, None, 9),
+    0x001040: ("BUFFER", "BUFFER", 12),
+    0x001042: (None, "BUFFER+2", 12),
+    0x001043: ("END", "END", None),
+    0x001044: (None, "BUFFER+4", None),
+    0x001050: (None, None, None),
+}
+
+
+def is_mapped():
+    """The map of a job has its names, lines and requests; a plain script has none."""
+    from excp.symbols import Assembled, assemble
+    from excp.symbols.source_map import source_map
+
+    done = assemble(MAPPED.encode())
+    found = source_map(done)
+    area = found.area_of(0, 0, 1)
+    for address, due in NAMES.items():
+        actual = area.label(address), area.operand(address), area.line(address)
+        require(actual == due, f"{address:06X} has {actual}, and not {due}")
+    plain = found.area_of(1, 0, 1)
+    require((plain.number, plain.opening_line, plain.label(0x2000), plain.line(0x2000)) == (1, 15, None, None), "a plain area")
+    requests = [found.request(*it) for it in ((0, 0, 1), (1, 0, 1), (0, 0, 2), (0, 0, 3), (0, 0, 0), (0, 1, 1))]
+    require(requests == [(16, 0), (17, 1), (18, 1), None, None, None], f"the requests are {requests}")
+    require(found.statement(12) == "FIRST:  DC    C'A;B'", "a statement with its comment")
+    require(source_map(Assembled(done.script)) is None, "a plain script has a map")
 
 
 def same(script):
@@ -149,5 +205,6 @@ def cases(setup):
     run = {script for _, script, _ in reports.stored()}
     for at in range(0, len(scripts), BATCH):
         yield case(f"listings of stored scripts, from {at}", are_stored, scripts[at : at + BATCH], run)
+    yield Case("names and lines of a job in symbols", is_mapped, "docs/ASSEMBLER.md, by the comments of the job")
     for seed in range(SCRIPTS):
         yield case(f"{PROGRAMS} programs at random: {seed}", programs_at_random, seed)

@@ -45,4 +45,4 @@ def read_plain(file: Optional[str], images: Callable[[], Images], stream: int) -
     if script.findings:
         print_findings(worth_printing(script.findings, text), file, stream)
         raise Rejected
-    return script
+    return replace(script, job=text)

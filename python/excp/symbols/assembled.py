@@ -3,19 +3,21 @@
 from __future__ import annotations
 
 from dataclasses import dataclass, field
-from typing import NamedTuple, Optional, Sequence
+from typing import Mapping, NamedTuple, Optional, Sequence
 
 from ..findings import Finding
+from .labels import Label
 from .words import Word
 
 
 class AreaLayout(NamedTuple):
-    """Where a job has an area: the line that opens it, its first address, and the word that has
-    set each byte, if one has."""
+    """Where a job has an area: the line that opens it, its first address, the word that has set
+    each byte, if one has, and its labels. A plain area has only the first two."""
 
     line: int
     base: int
     setters: Sequence[Optional[Word]] = ()
+    labels: Mapping[str, Label] = {}
 
 
 @dataclass(frozen=True)
@@ -24,12 +26,13 @@ class Assembled:
 
     Line N of the script is line N of the job. The line of a symbolic area is that of its
     `endarea`: `place` and `opening_line` lead from what is found in an area to the words of the
-    job.
+    job. A plain script has no `job`.
     """
 
     script: bytes
     findings: list[Finding] = field(default_factory=list)
     areas: Sequence[AreaLayout] = ()
+    job: Optional[bytes] = None
 
     def place(self, area: int, address: int) -> Optional[Word]:
         """The word of the job that has set a byte of an area, with its line and column; None if no

@@ -46,7 +46,8 @@ def assemble(job: bytes) -> Assembled:
     assembly.read(job.decode("latin-1"))
     if assembly.mistakes:
         return Assembled(b"", assembly.findings())
-    return Assembled("".join(assembly.script).encode("latin-1"), [], assembly.layouts)
+    script = "".join(assembly.script).encode("latin-1")
+    return Assembled(script, areas=assembly.layouts, job=job)
 
 
 class _Assembly:
@@ -215,7 +216,8 @@ class _Assembly:
                 raise Mistake(FaultName.AREA, _NO_BASE, address)
             self._put_comment(text)
         else:
-            self._add_area(Labels(), AreaLayout(area.line, 0), base or 0, digits // 2)
+            layout = AreaLayout(area.line, base or 0)
+            self._add_area(Labels(), layout, layout.base, digits // 2)
             self._put(said.text)
         if not is_next:
             raise Mistake(FaultName.ORDER, _NOT_NEXT, number)
@@ -249,7 +251,8 @@ class _Assembly:
         """Adds the plain line of the open area, with a word for each eight bytes."""
         self._open = None
         self.mistakes += area.end()
-        layout = AreaLayout(area.number.line, area.base, area.setters)
+        labels = area.labels.placed()
+        layout = AreaLayout(area.number.line, area.base, area.setters, labels)
         self._add_area(area.labels, layout, area.base, len(area.image))
         digits = area.image.hex(" ", -8).upper() or "-"
         self._put(f"area {area.number.text} {area.base & HIGHEST_ADDRESS:06X} {digits}")

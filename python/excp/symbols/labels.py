@@ -5,7 +5,7 @@ from __future__ import annotations
 import re
 from dataclasses import dataclass
 from itertools import islice
-from typing import Iterator, Optional
+from typing import Iterator, Mapping, Optional
 
 from ..device_commands import FLAGS
 from ..findings import FaultName
@@ -71,6 +71,10 @@ class Labels:
 
     def __iter__(self) -> Iterator[str]:
         return iter(self._labels)
+
+    def placed(self) -> Mapping[str, Label]:
+        """Each label by its name, in the order in which they are defined."""
+        return self._labels
 
     def define(self, word: Word, label: Label) -> None:
         """Defines a label. Raises Mistake if its name is wrong, or is there already."""
