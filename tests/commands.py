@@ -41,7 +41,7 @@ class Command:
 
 
 def of_text(text):
-    """The events of each unit for `check`, from the text of `report --steps`."""
+    """The events of each unit for `check`, from the text of `report --all-steps`."""
     units, unit, before = {}, [], ""
     for line in text.splitlines():
         if found := re.match(r"# unit (\d+): ", line):
@@ -56,12 +56,12 @@ def of_text(text):
             unit[-1].ccws.append(bytes.fromhex(is_ccw[1]))
         elif is_check:
             unit[-1].is_rule = True
-        elif found := re.match(r"\d+ bytes? (from|to|down from) [0-9A-F]{6}: ([0-9A-F]*)", words):
+        elif found := re.match(r"\d+ bytes? (from|to|down from) [0-9A-F]{6}(?: \S+)?: ((?:[0-9A-F]{2,8} ?)*)", words):
             unit[-1].way, unit[-1].shown = found[1], bytes.fromhex(found[2])
         elif found := re.match(r"status ([0-9A-F]{4})(?:.*, sense ([0-9A-F]{4}))?", words):
             unit[-1].status, unit[-1].sense, unit[-1].fault = int(found[1], 16), int(found[2] or "0", 16), ", fault " in words
         elif words:
-            unit[-1].place = words
+            unit[-1].place = re.sub(r"(, key [0-9A-F]+)  \|.*\|(?=: (?:not )?equal$)", r"\1", words)
     return units
 
 

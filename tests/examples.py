@@ -123,6 +123,7 @@ RUN = {
     ("docs/REPORT.md", "./excp report --html first.script"): (NOTHING, {"first.script": "samples/read.script"}),
     ("docs/REPORT.md", "./excp step --json samples/scenarios/halt-an-active-request.scenario"): (ANYTHING, {}),
     ("docs/ASSEMBLER.md", "./excp report --posts job"): (NEXT, {"job": "tasks 1"}),
+    ("docs/ASSEMBLER.md", "./excp report --steps job"): (AMONG, {"job": "tasks 1"}),
     ("docs/ASSEMBLER.md", "./excp report --listing samples/read.script"): (AMONG, {}),
     ("docs/ASSEMBLER.md", "./excp assemble job | ./excp -"): (NEXT, {"job": "tasks 1"}),
 }

@@ -438,19 +438,45 @@ def told(event):
         return f"purge of {scope} with {event['mode']}, {active} active"
     if what == "posted":
         end = f"posted {event['code']}, CSW {event['address']} {event['status']} {event['residual']}, sense {event['sense']}"
+        words = (names(int(event["status"], 16), STATUS) + names(int(event["sense"], 16), SENSE)).removeprefix(", ")
         is_started = event["why"] in (None, "halted", "not tried again")
-        return f"{request} {end}" + ("" if is_started else f", not started: {event['why']}")
+        return f"{request} {end}" + (f": {words}" if words else "") + ("" if is_started else f", not started: {event['why']}")
     return f"DCB {event['dcb']} {what}"
 
 
 STATUS = {0x4000: "status modifier", 0x0200: "unit check", 0x0100: "unit exception", 0x0040: "incorrect length",
-          0x0008: "channel data check", 0x0004: "channel control check", 0x0002: "interface control check"}
+          0x0020: "program check", 0x0008: "channel data check", 0x0004: "channel control check", 0x0002: "interface control check"}
 SENSE = {0x8000: "command reject", 0x4000: "intervention required", 0x1000: "equipment check", 0x0800: "data check",
          0x0040: "invalid track format", 0x0008: "no record found", 0x0004: "file protected"}
 
 
 def names(bits, table):
     return "".join(f", {name}" for bit, name in table.items() if bits & bit)
+
+
+def seen(byte):
+    """A byte in code page 037, with a dot for what cannot be seen."""
+    text = bytes([byte]).decode("cp037")
+    return "." if text < " " or "\x7f" <= text <= "\xa0" or text == "\xad" else text
+
+
+def characters(digits):
+    """Bytes as text."""
+    return "".join(map(seen, bytes.fromhex(digits)))
+
+
+def beside(digits):
+    """The text beside digits: none if it has only dots."""
+    text = characters(digits)
+    return f"  |{text}|" if set(text) - {"."} else ""
+
+
+def rows(name, digits):
+    """The rows of text after the line of a record or a block."""
+    text = characters(digits)
+    for at in range(0, len(text), 80):
+        if set(text[at : at + 80]) != {"."}:
+            yield f"# {name + (f'+{at}' if at else ''):<10} |{text[at : at + 80]}|"
 
 
 # The line of a step's place, and what stands for it if the place is not known: between the first and the last time of a loop.
@@ -477,9 +503,11 @@ def step_lines(step):
         return
     if "moved" in step:
         more = " ..." if step["more"] else ""
-        yield f"#           {count(step['moved'], 'byte')} {step['way']} {step['address']}: {step['bytes'] or '-'}{more}"
+        digits = step["bytes"]
+        groups = "-" if not digits else digits if digits == "skipped" else " ".join(re.findall(".{1,8}", digits)) + beside(digits)
+        yield f"#           {count(step['moved'], 'byte')} {step['way']} {step['address']}: {groups}{more}"
     if "place" in step:
-        yield f"#           {places.line_of(step['place'])}" if step["place"] else UNKNOWN
+        yield f"#           {place_of(step['place'])}" if step["place"] else UNKNOWN
     status = int(step["status"], 16)
     end = f"#           status {step['status']} residual {step['residual']}{names(status, STATUS)}"
     if step["next"]:
@@ -487,6 +515,27 @@ def step_lines(step):
     elif step["sense"] != "0000":
         end += f", sense {step['sense']}{names(int(step['sense'], 16), SENSE)}"
     yield end + (f", fault {step['fault']} of the unit" if step["fault"] else "")
+
+
+def place_of(place):
+    """The line of a place, with the text of its key."""
+    line = places.line_of(place)
+    return line.replace(f", key {place['key']}", f", key {place['key']}{beside(place['key'])}") if "key" in place else line
+
+
+def folded_lines(step):
+    """The lines of a command, or of a loop: those of its first round, and one of all others."""
+    if "loop" not in step:
+        yield from step_lines(step)
+        return
+    loop = step["loop"]
+    for it in loop:
+        yield from step_lines(it)
+    found = [it.get("last_place", it.get("place")) for it in loop]
+    last = [{key: value for key, value in it.items() if key not in ("key", "equal")} for it in found if it]
+    what = "command" if len(loop) == 1 else f"{len(loop)} commands"
+    end = f", up to {places.line_of(last[-1])}" if last else ""
+    yield f"#         ... the same {what} {count(step['times'] - 1, 'more time')}{end}"
 
 
 def medium_lines(unit):
@@ -501,6 +550,7 @@ def medium_lines(unit):
                 yield f"# no line declares, on track {it['cylinder']} {it['head']}: CCHHR {whole}, key {key}, data {data}"
             else:
                 yield f"rec {number} {it['cylinder']} {it['head']} {it['record']} {key} {data}"
+            yield from [*rows("key", it["key"]), *rows("data", it["data"])]
     elif unit["kind"] == "tape":
         yield f"tape {number} {unit['isc']} {medium['bytes']}"
         items = medium["items"]
@@ -509,6 +559,7 @@ def medium_lines(unit):
                 yield f"# the tape stands here, behind {place} of {len(items)} items"
             if place < len(items):
                 yield f"mark {number}" if items[place] is None else f"block {number} {items[place]}"
+                yield from rows("data", items[place] or "")
     else:
         yield f"printer {number} {unit['isc']} {medium['lines']} {medium['pages']}"
         for it in medium["printed"]:
@@ -516,14 +567,15 @@ def medium_lines(unit):
         yield f"# the paper stands at page {medium['page']}, line {medium['line']}"
 
 
-def text_of(run, with_steps):
-    """The text report of a run."""
+def text_of(run, form=None):
+    """The text report of a run: without steps, with `steps`, or with `all-steps`, in which the places of loops are unknown."""
     lines = []
     for unit in run["units"]:
         lines.append(f"# unit {unit['unit']}: {unit['kind']}, {count(unit['entries'], 'entry', 'entries')}")
         for event in unit["events"]:
             lines.append(f"# {event['entry']:5} {told(event)}")
-            for step in unfolded(steps_of(run, event)) if with_steps else []:
-                lines += step_lines(step)
+            steps = steps_of(run, event) if form else []
+            for step in unfolded(steps) if form == "all-steps" else steps:
+                lines += folded_lines(step)
         lines += medium_lines(unit)
     return posts_of(run) + "".join(f"{line}\n" for line in lines)

@@ -8,7 +8,7 @@ from enum import Enum
 from typing import Iterable, Iterator, Optional
 
 # Bold red and bold yellow, and the end of either, as terminals take them (ECMA-48, "SGR").
-_RED, _YELLOW, _PLAIN = "\x1b[1;31m", "\x1b[1;33m", "\x1b[0m"
+RED, YELLOW, PLAIN = "\x1b[1;31m", "\x1b[1;33m", "\x1b[0m"
 
 # What a note has in place of the name of a fault.
 _NOTE = "note"
@@ -63,5 +63,5 @@ def printed(findings: Iterable[Finding], file: str, is_coloured: bool = False) -
         named = own if it.file is None else printable_name(it.file)
         place = "".join(f"{part}:" for part in (named, *numbers))
         if is_coloured:
-            place = f"{_RED if it.is_fault else _YELLOW}{place}{_PLAIN}"
+            place = f"{RED if it.is_fault else YELLOW}{place}{PLAIN}"
         yield f"{place} {_NOTE if it.name is None else it.name.value}: {it.sentence}\n"

@@ -15,7 +15,7 @@ STORED = f"{TOP}/crates/excp_job/stdin"
 POSTS = f"{TOP}/crates/excp_job/stdout"
 
 # Marks of colour (ECMA-48, "SGR").
-RED, YELLOW, FAINT, PLAIN = "\x1b[1;31m", "\x1b[1;33m", "\x1b[2m", "\x1b[0m"
+RED, YELLOW, PLAIN = "\x1b[1;31m", "\x1b[1;33m", "\x1b[0m"
 
 # How a line begins that a report may have after its posts.
 REPORT_LINES = ("#", "disk ", "tape ", "printer ", "rec ", "block ", "mark ")
@@ -38,6 +38,7 @@ REPORTS = [
     ["report", "--channels", "2", "--steps", "--handlers", "2"],
     ["report", "--steps", "--most-steps", "18446744073709551615"],
     ["report", "--most-steps=1", "--steps"],
+    ["report", "--all-steps", "--most-steps", "1", "--ascii", "--color", "auto"],
 ]
 
 
@@ -71,10 +72,13 @@ def needs(word, forms):
 
 HIGHEST = 18_446_744_073_709_551_615
 
+FORMS = "steps", "all-steps", "json", "html", "posts", "listing"
+
 # Pairs of options of a word that exclude each other, in the order in which they are typed if argparse says so.
 EXCLUSIVE = {
     "report": [
-        *((form, other) for form in ("steps", "json", "html", "posts", "listing") for other in ("steps", "json", "html", "posts", "listing")),
+        *((form, other) for form in FORMS for other in FORMS),
+        *(("ascii", other) for other in ("json", "html", "posts", "listing")),
         *(("seed", other) for other in ("channels", "handlers")),
         *(("listing", other) for other in ("seed", "save", "channels", "handlers")),
     ],
@@ -125,7 +129,7 @@ REJECTED = [
     (["assemble", "--channels", "2"], unknown("assemble", "--channels")),
     (["assemble", "--steps"], unknown("assemble", "--steps")),
     (["step", "--steps"], unknown("step", "--steps")),
-    *((["report", *words, "--most-steps", "2"], needs("report", "--steps or --json")) for words in ([], ["--html"], ["--posts"], ["--listing"])),
+    *((["report", *words, "--most-steps", "2"], needs("report", "--steps, --all-steps or --json")) for words in ([], ["--html"], ["--posts"], ["--listing"])),
     *((["step", *words, "--most-steps", "2"], needs("step", "--json")) for words in ([], ["--html"], ["--trace"])),
     (["report", "--scenario", "x"], wrong("report", "--scenario FILE needs --seed N")),
     (["check", "--save", "0=x"], unknown("check", "--save")),
@@ -143,6 +147,8 @@ REJECTED = [
     (["convert", "--to", "aws", "x"], wrong("convert", "--to FORMAT and --output OUT go together")),
     (["convert", "--output", "y", "x"], wrong("convert", "--to FORMAT and --output OUT go together")),
     (["describe"], wrong("describe", "the following arguments are required: IMAGE")),
+    *((["report", "--color", it], wrong("report", f"argument --color: '{it}': expected auto, always or never")) for it in ("", "red")),
+    (["step", "--color", "never"], unknown("step", "--color")),
     (["report", "--steps=1"], wrong("report", "argument --steps: ignored explicit argument '1'")),
     (["report", "--channels", "-1"], no_number("report", "channels", "-1", 1, 16)),
     (["report", "--channels"], wrong("report", "argument --channels: expected one argument")),
@@ -463,23 +469,48 @@ def on_terminal(setup, words, file, environment):
     return text.decode().replace("\r\n", "\n")
 
 
-def coloured(setup, words, file, wanted, **environment):
-    """The program writes to a terminal with the marks of colour that are wanted, and else what it writes to a pipe."""
+def coloured(setup, words, file, marked, **environment):
+    """The program writes to a terminal with the marks of colour that are due, and else what it writes to a pipe."""
     plain = {key: value for key, value in os.environ.items() if key != "NO_COLOR"}
     text = on_terminal(setup, words, file, {**plain, **environment})
-    plain = run_on_file(setup, words, file)[0]
-    due = "".join(f"{marked(it, wanted)}\n" for it in (plain.out + plain.err).splitlines())
-    expect_text("another text or colour than is due", Ran(words, 0), due, text)
+    plain = run_on_file(setup, [it for it in words if not it.startswith("--color")], file)[0]
+    expect_text("another text or colour than is due", Ran(words, 0), marked(plain.out + plain.err), text)
 
 
-def marked(line, wanted):
-    """A line with its colour: the place of a fault is red and that of a note yellow, and a comment is faint."""
-    place, gap, rest = line.partition(" ")
-    if FAINT in wanted and line.startswith("#"):
-        return f"{FAINT}{line}{PLAIN}"
-    if RED in wanted and place.endswith(":"):
-        return f"{YELLOW if rest.startswith('note: ') else RED}{place}{PLAIN}{gap}{rest}"
-    return line
+def without_colour(text):
+    return text
+
+
+def by_place(text):
+    """Findings in colour: the place of a fault is red, and that of a note yellow."""
+    mark = lambda found: f"{YELLOW if found[2].startswith('note: ') else RED}{found[1]}{PLAIN} {found[2]}"
+    return re.sub(r"(?m)^(\S+:) (.*)$", mark, text)
+
+
+def by_failure(text):
+    """A report in colour: posts with another code than 7F are red, and commands whose status is no normal end and no equal search,
+    or that are a program check. A command ends with the line of either."""
+    lines, command = [], []
+    for line in text.splitlines():
+        command.append(line)
+        if line.startswith("#         ") and not re.match(r"#           (status|program check)|#         \.\.\.", line):
+            continue
+        is_post = re.match(r"post \d+ \d+ \d+ (?!7F)|# +\d+ task \d+ request \d+ posted (?!7F)", line)
+        has_failed = is_post or re.match(r"#           (status (?!0C00|4C00)|program check)", line)
+        lines += [f"{RED}{it}{PLAIN}" if has_failed else it for it in command]
+        command = []
+    return "".join(f"{line}\n" for line in lines)
+
+
+def colours_a_pipe(setup, script):
+    """`--color always` marks what goes to a pipe, whatever NO_COLOR says; `auto` and `never` do not."""
+    words = ["report", "--steps", script]
+    due = run(setup.command(*words)).out
+    require(by_failure(due).count(RED) > 20, "nothing of it failed")
+    for when, text in (("always", by_failure(due)), ("auto", due), ("never", due)):
+        for environment in ({}, {"NO_COLOR": "1"}):
+            ran = run(setup.command(*words, "--color", when), env={**os.environ, **environment})
+            expect_text(f"another colour with {when}", ran, text, ran.out)
 
 
 def cases(setup):
@@ -513,15 +544,20 @@ def cases(setup):
         yield case(f"excp_tools {words}", rejects_words, setup, words)
     yield case("run to a reader that is gone", without_reader, setup, ["run"], STORED, 1, "excp_job: output not written\n")
     yield case("check of faults to a reader that is gone", without_reader, setup, ["check"], f"{CASES}/refusals/check.script", 1, "")
-    faults, script = f"{CASES}/refusals/check.script", f"{SAMPLES}/read.script"
-    yield case("check in colour on a terminal", coloured, setup, ["check"], faults, [RED, YELLOW, PLAIN])
-    yield case("check in colour with NO_COLOR empty", coloured, setup, ["check"], faults, [RED, YELLOW, PLAIN], NO_COLOR="")
-    yield case("check without colour with NO_COLOR", coloured, setup, ["check"], faults, [], NO_COLOR="1")
+    faults, ends = f"{CASES}/refusals/check.script", f"{SAMPLES}/how-programs-end.script"
+    yield case("check in colour on a terminal", coloured, setup, ["check"], faults, by_place)
+    yield case("check in colour with NO_COLOR empty", coloured, setup, ["check"], faults, by_place, NO_COLOR="")
+    yield case("check without colour with NO_COLOR", coloured, setup, ["check"], faults, without_colour, NO_COLOR="1")
     symbolic = f"{CASES}/refusals/assemble.symbolic"
-    yield case("assemble in colour on a terminal", coloured, setup, ["assemble"], symbolic, [RED, PLAIN])
-    yield case("report in colour on a terminal", coloured, setup, ["report"], script, [FAINT, PLAIN])
-    yield case("report without colour with NO_COLOR", coloured, setup, ["report"], script, [], NO_COLOR="1")
-    yield case("run without colour on a terminal", coloured, setup, ["run"], script, [])
+    yield case("assemble in colour on a terminal", coloured, setup, ["assemble"], symbolic, by_place)
+    steps, never = ["report", "--steps"], ["report", "--steps", "--color=never"]
+    yield case("report in colour on a terminal", coloured, setup, steps, ends, by_failure)
+    yield case("posts in colour on a terminal", coloured, setup, ["report", "--posts"], ends, by_failure)
+    yield case("report without colour with NO_COLOR", coloured, setup, steps, ends, without_colour, NO_COLOR="1")
+    yield case("report without colour with --color never", coloured, setup, never, ends, without_colour)
+    yield case("report in colour with --color always", coloured, setup, [*steps, "--color=always"], ends, by_failure, NO_COLOR="1")
+    yield case("report in colour to a pipe", colours_a_pipe, setup, ends)
+    yield case("run without colour on a terminal", coloured, setup, ["run"], ends, without_colour)
     for words in (["--version"], ["-V"]):
         yield case(words[0], prints_version, setup, words[0])
     yield case("assemble with standard input closed", without_input, setup)

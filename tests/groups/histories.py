@@ -11,7 +11,7 @@ import re
 
 from groups.samples import without_history
 from groups.scripts import is_printed
-from harness import CASES, Case, Failed, files, multiple, read
+from harness import CASES, Case, Failed, files, multiple, read, require
 
 RULES = f"{CASES}/histories/rules.checks"
 
@@ -31,6 +31,23 @@ CHECK = "#           program check at "
 OF_COMMAND = "#         "
 CCW = re.compile(OF_COMMAND + "[0-9A-F]{6}  ")
 LEFT_OUT = f"{OF_COMMAND}--most-steps leaves out the commands from here\n"
+FOLDED = f"{OF_COMMAND}... the same "
+
+# A job that prints bytes which are text in ASCII, and the lines that have text.
+IN_ASCII = """tasks 1
+printer 0 0 9 1
+tape 1 0 100
+block 1 48492021C1
+block 1 C1C2
+open 0 out
+area 0 001000 4200000000001028 0000000000000000 0000103000000001 0000000000000000 0000000000000000 0000000000000000 0900103800000006 7C61207E7FC10000
+excp 0 0 1 001000 0 001000 0
+"""
+ASCII_LINES = [
+    "#           6 bytes from 001038: 7C61207E 7FC1  ||a ~..|",
+    "# page     1 line  1 ||a ~..",
+    "# data       |HI !.|",
+]
 
 
 def is_reported(setup, script, wanted):
@@ -54,6 +71,23 @@ def shortened(report, most):
     return "".join(lines)
 
 
+def is_shortened(setup, script, stored, most):
+    """A report with every command has only the first `most` of each unit. One that is stored with folded loops is shortened as the
+    program prints it without them."""
+    whole = setup.run("report", "--all-steps", script=script).out if FOLDED in stored else stored
+    is_printed(setup, ["report", "--all-steps", "--most-steps", str(most)], script, shortened(whole, most))
+
+
+def is_in_ascii(setup):
+    """With `--ascii` bytes that a command moves, keys, blocks and lines of paper have the text that ASCII gives them."""
+    ran = setup.run("report", "--steps", "--ascii", script=IN_ASCII)
+    found = [line for line in ran.out.splitlines() if "|" in line]
+    require((ran.status, ran.err, found) == (0, "", ASCII_LINES), "other text", ran)
+    for form in "--json", "--html", "--posts", "--listing":
+        ran = setup.run("report", "--ascii", form, script=IN_ASCII)
+        require((ran.status, ran.out) == (2, "") and "--ascii" in ran.err, f"--ascii with {form}", ran)
+
+
 def names_rule(setup, script, rule):
     """The report names this rule, and no other."""
     ran = setup.run("report", "--steps", script=script)
@@ -74,10 +108,9 @@ def cases(setup):
                 yield Case(f"{group}: {name}", judge, f"{place}, by docs/SPECIFICATION.md and docs/MANUAL.md")
                 if suffix == ".steps":
                     for most in 1, 3:
-                        words = ["report", "--steps", "--most-steps", str(most)]
-                        due = shortened(wanted, most)
-                        judge = lambda s=script, w=words, d=due: is_printed(setup, w, s, d)
+                        judge = lambda s=script, w=wanted, m=most: is_shortened(setup, s, w, m)
                         yield Case(f"{group}: {name}, {most} of its commands", judge, f"{place}, shortened")
+    yield Case("text in ASCII", lambda: is_in_ascii(setup), "docs/MANUAL.md, and ASCII (RFC 20)")
     for number, line in enumerate(read(RULES).splitlines(), 1):
         if line.startswith("#"):
             continue

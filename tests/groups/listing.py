@@ -4,11 +4,15 @@
   comes of a sample prints its posts.
 - So do listings of programs at random, with valid and odd IOBs, CCWs and data.
 - `tests/cases/listing/*.listing` has scripts and their listings, written by hand.
+- `tests/cases/listing/*.steps` has jobs in symbols and their reports with steps. So have the samples: but for their names they are
+  those of the plain scripts, and each CCW has a line of the job with its mnemonic.
 - A job in symbols has the names and lines of its addresses, and the areas of its requests, as they are written in MAPPED and NAMES.
 """
 
+import glob
 import os
 import random
+import re
 
 from groups import first_faults, reports
 from harness import SAMPLES, Case, expect, expect_text, files, multiple, read, require
@@ -86,6 +90,34 @@ def is_mapped():
     require(requests == [(16, 0), (17, 1), (18, 1), None, None, None], f"the requests are {requests}")
     require(found.statement(12) == "FIRST:  DC    C'A;B'", "a statement with its comment")
     require(source_map(Assembled(done.script)) is None, "a plain script has a map")
+
+
+# What only the steps of a job in symbols have: the line and the statement of a CCW, labels, and the source of a request.
+CCW = re.compile(r"(?m)^(# {9}[0-9A-F]{6}  [0-9A-F]{16}  .{28,}?) (?=[ 0-9]{5}) *(\d+) (.*)$")
+LABEL = re.compile(r"(?m)^(#           .*(?:(?:from|to) [0-9A-F]{6}|, on to [0-9A-F]{6})) [A-Za-z_$#@][^ :]*(?=:|$|,)")
+SOURCE = re.compile(r"(?m)^(# .* arrived for .*?), line \d+: area \d+, start \S+$")
+CHECKED = re.compile(r"(?m)^(#           program check at [^:]*), line \d+(?=: )")
+
+
+def names_commands(setup, file):
+    """The commands of a sample in symbols have its names, and are else those of its plain script."""
+    words = "report", "--steps", "--seed", "1"
+    job, ran = read(file), setup.run(*words, file=file)
+    require((ran.status, ran.err) == (0, ""), "the report fails", ran)
+    lines = job.splitlines()
+    for found in CCW.finditer(ran.out):
+        said = lines[int(found[2]) - 1].split(";")[0].rstrip()
+        require(said == found[3], f"line {found[2]} is {said!r}", ran)
+    plain = CCW.sub(lambda it: it[1].rstrip(), ran.out)
+    for pattern in LABEL, SOURCE, CHECKED:
+        plain = pattern.sub(r"\1", plain)
+    due = setup.run(*words, script=setup.run("assemble", script=job).out)
+    expect_text("other steps than those of the plain script", ran, due.out, plain)
+    require(plain != ran.out, "no names", ran)
+
+
+def has_steps(setup, script, wanted):
+    expect(setup.run("report", "--steps", script=script), (0, wanted))
 
 
 def same(script):
@@ -198,6 +230,11 @@ def cases(setup):
     for file in files("listing", ".listing"):
         for name, script, text, place in multiple(file):
             yield case(name, is_listed, script, text, origin=f"{place}, by docs/ASSEMBLER.md")
+    for file in files("listing", ".steps"):
+        for name, script, text, place in multiple(file):
+            yield case(name, has_steps, script, text, origin=f"{place}, by docs/ASSEMBLER.md and docs/SPECIFICATION.md")
+    for file in sorted(glob.glob(f"{SAMPLES}/*.symbolic")):
+        yield case(f"names in the steps of {os.path.basename(file)}", names_commands, file)
     for file in sorted(os.listdir(SAMPLES)):
         if file.endswith(".script"):
             yield case(f"listing of {file}", is_sample, f"{SAMPLES}/{file.removesuffix('.script')}")

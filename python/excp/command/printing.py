@@ -5,21 +5,16 @@ from __future__ import annotations
 import io
 import os
 import queue
-import re
 import threading
 from itertools import chain
 from typing import IO, Callable, Iterable, Iterator, Optional
 
 from ..reporting.kept import NotKept
 from ..reporting.record import Record
-from .forms import Form
+from .forms import Form, Names
 from .streams import (
-    FAILED, OUT_OF_MEMORY, OUTPUT, Ended, NotWritten, error_of_program, is_open, takes_colour,
-    write_output,
+    FAILED, OUT_OF_MEMORY, OUTPUT, Ended, NotWritten, error_of_program, is_open, write_output,
 )
-
-# A comment of a script, and it in faint letters, as terminals take them (ECMA-48, "SGR").
-_COMMENT, _FAINT = re.compile(r"^#.*$", re.M), "\x1b[2m\\g<0>\x1b[0m"
 
 # The bytes that are read at a time if nothing uses them.
 _AT_A_TIME = 1 << 16
@@ -30,17 +25,16 @@ class _CutShort(Exception):
 
 
 class Printing:
-    """Prints a form of a record. `is_awaited` says that the program is to reach its end although
-    nothing is printed any more.
+    """Prints a form of a record, with the names of a job. `is_awaited` says that the program is to
+    reach its end although nothing is printed any more.
 
     `failure` is why not all is printed: ReaderGone, Ended or MemoryError.
     """
 
-    def __init__(self, form: Form, is_awaited: bool) -> None:
+    def __init__(self, form: Form, names: Names, is_awaited: bool) -> None:
         self.is_over = False
         self.failure: Optional[Exception] = None
-        self._form, self._is_awaited = form, is_awaited
-        self._is_faint = form.has_comments and takes_colour(OUTPUT)
+        self._form, self._names, self._is_awaited = form, names, is_awaited
         self._has_output = is_open(OUTPUT)
         self._status: queue.SimpleQueue[int] = queue.SimpleQueue()
 
@@ -79,10 +73,7 @@ class Printing:
             raise _CutShort
 
     def _print(self, record: Record) -> None:
-        pieces: Iterable[str] = self._form.pieces(record)
-        if self._is_faint:
-            pieces = (_COMMENT.sub(_FAINT, piece) for piece in pieces)
-        parts = (piece.encode() for piece in pieces)
+        parts = (piece.encode() for piece in self._form.pieces(record, self._names))
         # without a record nothing is printed, whatever the output is
         for part in parts:
             if not self._has_output:

@@ -8,23 +8,31 @@ from typing import Optional
 
 from ..checking import check_script, has_rejected_line
 from ..checking.loaded import with_sizes
+from ..images.ebcdic import seen
+from ..reporting.look import Look, in_ascii
+from ..script.forms import listed
 from .options import (
     MOST, add_workers, check_exclusions, is_given, number, unit_files, words_of,
 )
 from .script_file import add_script, read_plain, worth_printing
-from .streams import ERRORS, REJECTED, name_of, print_findings, write_output
+from .streams import (
+    ERRORS, OUTPUT, REJECTED, name_of, print_findings, takes_colour, write_output,
+)
 from .unit_files import add_load, add_save, load_images
 
 _FORMS = {
-    "steps": "every command of each history too",
+    "steps": "the commands of each history too, loops folded",
+    "all-steps": "every command of each history too",
     "json": "all of a report as JSON",
     "html": "all of a report as one page for a browser",
     "posts": "the posts and their count alone",
     "listing": "runs nothing: each area in symbols",
 }
-_WITH_MOST = ("steps", "json")
+_WITH_MOST = ("steps", "all-steps", "json")
 
-_EXCLUSIONS = {"seed": ("channels", "handlers")}
+_COLOURS = ("auto", "always", "never")
+
+_EXCLUSIONS = {"seed": ("channels", "handlers"), "ascii": ("json", "html", "posts", "listing")}
 _OF_LISTING = {"listing": ("seed", "save", "channels", "handlers")}
 
 
@@ -33,6 +41,8 @@ def add_arguments(parser: argparse.ArgumentParser) -> None:
     forms = parser.add_mutually_exclusive_group()
     for name, says in _FORMS.items():
         forms.add_argument(f"--{name}", action="store_true", help=says)
+    parser.add_argument("--ascii", action="store_true", help="text as ASCII")
+    parser.add_argument("--color", type=_colour, metavar="WHEN", help="red: auto, always, never")
     parser.add_argument("--most-steps", type=number(1, MOST), metavar="N", help="so many commands")
     parser.add_argument("--seed", type=number(0, MOST), metavar="N", help="by its schedule")
     parser.add_argument("--scenario", metavar="FILE", help="writes the schedule as a scenario")
@@ -45,10 +55,22 @@ def run(given: argparse.Namespace) -> int:
     check_exclusions(given, {**_EXCLUSIONS, **(_OF_LISTING if given.listing else {})})
     form = next((name for name in _FORMS if is_given(given, name)), None)
     if given.most_steps is not None and form not in _WITH_MOST:
-        given.usage_error("--most-steps N needs --steps or --json")
+        given.usage_error("--most-steps N needs --steps, --all-steps or --json")
     if given.scenario is not None and given.seed is None:
         given.usage_error("--scenario FILE needs --seed N")
     return _list(given) if given.listing else _report(given, form)
+
+
+def _colour(word: str) -> str:
+    if word not in _COLOURS:
+        raise argparse.ArgumentTypeError(f"'{word}': expected {listed(_COLOURS)}")
+    return word
+
+
+def _look(given: argparse.Namespace) -> Look:
+    """How the text of a report looks with these options."""
+    has_colour = takes_colour(OUTPUT) if given.color in (None, "auto") else given.color == "always"
+    return Look(in_ascii if given.ascii else seen, has_colour)
 
 
 def _report(given: argparse.Namespace, name: Optional[str]) -> int:
@@ -58,7 +80,7 @@ def _report(given: argparse.Namespace, name: Optional[str]) -> int:
     from .whole_script import read_job
 
     words = words_of(seed=given.seed, channels=given.channels, handlers=given.handlers)
-    form = form_of(name, title_of(given.script), given.most_steps)
+    form = form_of(name, title_of(given.script), given.most_steps, _look(given))
     order = Order.of(given, "report", words, form, saves_unread=True)
     return carry_out(order, read_job(given.script, order.loads))
 

@@ -6,6 +6,7 @@ import argparse
 import os
 import stat
 
+from ..reporting.look import Look
 from .forms import form_of
 from .options import MOST, check_exclusions, number, words_of
 from .script_file import add_script
@@ -36,7 +37,7 @@ def run(given: argparse.Namespace) -> int:
     form = None
     if given.json or given.html:
         name = "json" if given.json else "html"
-        form = form_of(name, title_of(given.script), given.most_steps)
+        form = form_of(name, title_of(given.script), given.most_steps, Look())
     order = Order.of(given, "step", words_of(trace=given.trace, state=given.state), form)
     if given.script is None:
         return _step_input(order)

@@ -135,7 +135,8 @@ class _Run:
         form, printing = self._order.form, None
         if form is not None:
             has_new_files = next(self._outputs(), None) is not None
-            printing = Printing(form, is_awaited=self._order.saves_unread and has_new_files)
+            is_awaited = self._order.saves_unread and has_new_files
+            printing = Printing(form, self._source.names, is_awaited)
         with self._source.opened() as given:
             begun = self._source.begun
             status = ended(

@@ -11,6 +11,7 @@ from typing import BinaryIO, Callable, ContextManager, Mapping, Optional, Protoc
 from ..checking.loaded import Images
 from ..files.targets import Targets, UnitFile
 from ..findings import Finding
+from ..symbols.source_map import SourceMap
 from .forms import Form
 from .handing import name_in_texts
 from .options import unit_files
@@ -39,6 +40,9 @@ class Source(Protocol):
 
     def findings(self, images: Images) -> Sequence[Finding]:
         """What is printed of it if the program has refused it."""
+
+    def names(self) -> Optional[SourceMap]:
+        """The names of a job in symbols that is read whole."""
 
 
 @dataclass(frozen=True)

@@ -4,6 +4,8 @@ from __future__ import annotations
 
 from typing import Callable, Mapping
 
+from ..device_status import NORMAL_END, SENSE_BITS, STATUS_BITS, names_of
+from .look import Look
 from .record import Members
 from .texts import counted
 
@@ -11,9 +13,24 @@ from .texts import counted
 _AFTER_START = (None, "halted", "not tried again")
 
 
-def event_line(event: Members) -> str:
-    """The line of an event, a comment of a script."""
-    return f"# {event['entry']:5} {_IN_WORDS[event['what']](event)}\n"
+def event_line(unit: int, event: Members, look: Look) -> str:
+    """The line of an event of a unit, a comment of a script."""
+    what = event["what"]
+    source = _source(unit, event, look) if what == "arrived" else ""
+    line = f"# {event['entry']:5} {_IN_WORDS[what](event)}{source}\n"
+    return look.posted(line, event) if what == "posted" else line
+
+
+def _source(unit: int, event: Members, look: Look) -> str:
+    """Where a job in symbols issues the request that arrived, and where its program starts."""
+    if look.source is None:
+        return ""
+    name = event["task"], unit, event["request"]
+    request, area = look.source.request(*name), look.area(*name)
+    if request is None or area is None:
+        return ""
+    start = area.operand(int(event["start"], 16)) or event["start"]
+    return f", line {request.line}: area {area.number}, start {start}"
 
 
 def _request(event: Members) -> str:
@@ -54,7 +71,10 @@ def _posted(event: Members) -> str:
     csw = f"{event['address']} {event['status']} {event['residual']}"
     end = f"posted {event['code']}, CSW {csw}, sense {event['sense']}"
     why = "" if event["why"] in _AFTER_START else f", not started: {event['why']}"
-    return f"{_request(event)} {end}{why}"
+    bits = int(event["status"], 16) & ~NORMAL_END, int(event["sense"], 16)
+    names = names_of(bits[0], STATUS_BITS) + names_of(bits[1], SENSE_BITS)
+    words = f": {', '.join(names)}" if names else ""
+    return f"{_request(event)} {end}{words}{why}"
 
 
 _IN_WORDS: Mapping[str, Callable[[Members], str]] = {

@@ -1,22 +1,34 @@
-"""What lies on a medium, in the lines of a script that declare it, and comments on what no line
-declares."""
+"""What lies on a medium, in the lines of a script that declare it. Comments have what no line
+declares, and the text of keys, data and blocks."""
 
 from __future__ import annotations
 
 from typing import Callable, Iterator, Mapping, Optional
 
 from ..device_commands import DISK, PRINTER, TAPE
-from ..images.ebcdic import seen
+from .look import Look
 from .record import Members, Record, members
 from .texts import shown
 
+# The characters of a row of text.
+_ROW = 80
 
-def medium_lines(record: Record, unit: Members) -> Iterator[str]:
+
+def medium_lines(record: Record, unit: Members, look: Look) -> Iterator[str]:
     """The lines of the medium of a unit, which a record has next."""
-    return _LINES[unit["kind"]](record, unit)
+    return _LINES[unit["kind"]](record, unit, look)
 
 
-def _disk_lines(record: Record, unit: Members) -> Iterator[str]:
+def _text_rows(name: str, digits: str, look: Look) -> Iterator[str]:
+    """Bytes as text, with the place of each row but the first. Rows of dots alone are left out."""
+    text = look.text(bytes.fromhex(digits))
+    for at in range(0, len(text), _ROW):
+        row = text[at : at + _ROW]
+        if row.strip("."):
+            yield f"# {f'{name}+{at}' if at else name:10} |{row}|\n"
+
+
+def _disk_lines(record: Record, unit: Members, look: Look) -> Iterator[str]:
     number, size = unit["unit"], members(record.take())
     tracks = f"{size['cylinders']} {size['heads']} {size['bytes']}"
     yield f"disk {number} {unit['isc']} {tracks}\n"
@@ -30,6 +42,8 @@ def _disk_lines(record: Record, unit: Members) -> Iterator[str]:
             yield f"# no line declares, on track {track}: {area}\n"
         else:
             yield f"rec {number} {track} {name} {key} {data}\n"
+        yield from _text_rows("key", it["key"], look)
+        yield from _text_rows("data", it["data"], look)
 
 
 def _declared_number(record: Members) -> Optional[int]:
@@ -40,7 +54,7 @@ def _declared_number(record: Members) -> Optional[int]:
     return number if is_declared else None
 
 
-def _tape_lines(record: Record, unit: Members) -> Iterator[str]:
+def _tape_lines(record: Record, unit: Members, look: Look) -> Iterator[str]:
     number, size = unit["unit"], members(record.take())
     yield f"tape {number} {unit['isc']} {size['bytes']}\n"
     place, count = size["place"], 0
@@ -50,21 +64,23 @@ def _tape_lines(record: Record, unit: Members) -> Iterator[str]:
             yield stands
         block = members(line)["block"]
         yield f"mark {number}\n" if block is None else f"block {number} {shown(block)}\n"
+        yield from _text_rows("data", block or "", look)
         count += 1
     if count == place:
         yield stands
 
 
-def _printer_lines(record: Record, unit: Members) -> Iterator[str]:
+def _printer_lines(record: Record, unit: Members, look: Look) -> Iterator[str]:
     size = members(record.take())
     yield f"printer {unit['unit']} {unit['isc']} {size['lines']} {size['pages']}\n"
     for line in record.all_of("line"):
         it = members(line)
-        yield f"# page {it['page']:5} line {it['line']:2} |{seen(bytes.fromhex(it['bytes']))}\n"
+        text = look.text(bytes.fromhex(it["bytes"]))
+        yield f"# page {it['page']:5} line {it['line']:2} |{text}\n"
     yield f"# the paper stands at page {size['page']}, line {size['line']}\n"
 
 
-_LINES: Mapping[str, Callable[[Record, Members], Iterator[str]]] = {
+_LINES: Mapping[str, Callable[[Record, Members, Look], Iterator[str]]] = {
     DISK: _disk_lines,
     TAPE: _tape_lines,
     PRINTER: _printer_lines,

@@ -4,6 +4,7 @@ from __future__ import annotations
 
 from typing import Iterator
 
+from .look import Look
 from .record import Members, Record, members
 from .texts import shown
 
@@ -20,13 +21,14 @@ def count_line(count: int) -> str:
     return f"end {count}\n"
 
 
-def post_lines(record: Record) -> Iterator[str]:
+def post_lines(record: Record, look: Look) -> Iterator[str]:
     """The lines of the posts with which a record begins; none of an empty one."""
     if record.what is None:
         return
     record.take()
     count = 0
     for line in record.all_of("post"):
-        yield post_line(members(line))
+        post = members(line)
+        yield look.posted(post_line(post), post)
         count += 1
     yield count_line(count)

@@ -1,77 +1,156 @@
-"""A command of a channel program in words: a line for each CCW, and then, two blanks further right,
+"""The commands of channel programs in words: a line for each CCW, and then, two blanks further right,
 its data, its place on the medium and its end. Each line is a comment of a script."""
 
 from __future__ import annotations
 
 from functools import lru_cache
-from typing import Iterator, List, Tuple
+from typing import TYPE_CHECKING, Iterable, Iterator, List, NamedTuple, Optional
 
 from ..device_status import NORMAL_END, SENSE_BITS, STATUS_BITS, names_of
+from .folds import Fold, folded
+from .look import Look
 from .record import Members, members
-from .step import ccw_names, step_of
-from .texts import counted, shown
+from .step import Step, ccw_names, step_of
+from .texts import counted
+
+if TYPE_CHECKING:
+    # as in look.py
+    from ..symbols.source_map import AreaSource
 
 _INDENT = "#         "
 
 LEFT_OUT = f"{_INDENT}--most-steps leaves out the commands from here\n"
 
+# The status with which a command ends well: that of a normal end, or of an equal search.
+_WELL = NORMAL_END | 0x4000
 
-def step_lines(device: str, line: str) -> str:
-    """The lines of a step of a kind of device."""
-    step = step_of(line)
-    before, after = _around_place(device, step.text)
-    place = f"{_INDENT}  {_place(members(step.place))}\n" if step.place else ""
-    return f"{before}{place}{after}"
+# The hexadecimal digits of a group, and the width of what comes before the source of a CCW.
+_GROUP, _BEFORE_SOURCE = 8, 54
+
+# What the step of a command that skips has in place of its bytes.
+_SKIPPED = "skipped"
 
 
-# a loop has the same steps again and again, at other places
-@lru_cache(maxsize=1024)
-def _around_place(device: str, text: str) -> Tuple[str, str]:
-    """The lines of a step before that of its place, and those after it."""
-    step = members(f"{text}}}")
-    before, after = [*_ccws(device, step), *_moved(step)], [f"  {_ending(step)}"]
-    return _joined(before), _joined(after)
+class _StepText(NamedTuple):
+    """The lines of a step before that of its place, and those after it, and whether it failed."""
+
+    before: str
+    after: str
+    has_failed: bool
+
+
+class StepLines:
+    """Makes the lines of commands of a kind of device."""
+
+    def __init__(self, device: str, look: Look) -> None:
+        self._device, self._look = device, look
+        # a loop has the same steps again and again, at other places
+        self._around_place = lru_cache(maxsize=1024)(self._made)
+
+    def lines(self, steps: Iterable[str], area: Optional[AreaSource]) -> Iterator[str]:
+        """The lines of the steps of one entry, whose program is in an area of a job in symbols, or
+        of a plain script."""
+        if self._look.folds_loops:
+            for fold in folded([step_of(line) for line in steps]):
+                yield from (self._step(step, area) for step in fold.first)
+                if fold.times > 1:
+                    yield _further_rounds(fold)
+        else:
+            yield from (self._step(step_of(line), area) for line in steps)
+
+    def _step(self, step: Step, area: Optional[AreaSource]) -> str:
+        """The lines of a step."""
+        text = self._around_place(step.text, area)
+        place = f"{_INDENT}  {self._place(members(step.place))}\n" if step.place else ""
+        lines = f"{text.before}{place}{text.after}"
+        return self._look.failed(lines) if text.has_failed else lines
+
+    def _place(self, place: Members) -> str:
+        """Where a command was on its medium. Of a search it also says what it found."""
+        if "passed" in place:
+            count = counted(place["passed"], "record")
+            return f"no record found on {_track(place)} after {count}"
+        if "equal" not in place:
+            return _where(place)
+        key = f", key {place['key']}{self._look.beside(place['key'])}" if "key" in place else ""
+        return f"{_where(place)}{key}: {'equal' if place['equal'] else 'not equal'}"
+
+    def _made(self, text: str, area: Optional[AreaSource]) -> _StepText:
+        step = members(f"{text}}}")
+        has_failed = "rule" in step or bool(int(step["status"], 16) & ~_WELL)
+        before = [*self._ccws(step, area), *self._moved(step, area)]
+        return _StepText(_joined(before), _joined([f"  {_ending(step, area)}"]), has_failed)
+
+    def _ccws(self, step: Members, area: Optional[AreaSource]) -> Iterator[str]:
+        for place, ccw in enumerate(step["ccws"]):
+            names = ccw_names(self._device, ccw["image"], place > 0)
+            words = " ".join([f"{ccw['at']}  {ccw['image']}  {names.words}", *names.flags])
+            source = self._source(ccw["at"], area)
+            yield f"{words:{_BEFORE_SOURCE}}{source}" if source else words
+
+    def _source(self, address: str, area: Optional[AreaSource]) -> str:
+        """The number and the text of the line that has a CCW."""
+        line = area.line(int(address, 16)) if area is not None else None
+        if line is None or self._look.source is None:
+            return ""
+        return f" {line:5} {self._look.source.statement(line)}"
+
+    def _moved(self, step: Members, area: Optional[AreaSource]) -> Iterator[str]:
+        if "moved" in step:
+            count, more = counted(step["moved"], "byte"), " ..." if step["more"] else ""
+            place = f"{step['way']} {step['address']}{_label(step['address'], area)}"
+            yield f"  {count} {place}: {self._bytes(step['bytes'])}{more}"
+
+    def _bytes(self, digits: str) -> str:
+        """Bytes in hexadecimal, in groups, and their text; a hyphen for none."""
+        if not digits or digits == _SKIPPED:
+            return digits or "-"
+        groups = (digits[at : at + _GROUP] for at in range(0, len(digits), _GROUP))
+        return f"{' '.join(groups)}{self._look.beside(digits)}"
 
 
 def _joined(lines: List[str]) -> str:
     return "".join(f"{_INDENT}{line}\n" for line in lines)
 
 
-def _ccws(device: str, step: Members) -> Iterator[str]:
-    for place, ccw in enumerate(step["ccws"]):
-        names = ccw_names(device, ccw["image"], place > 0)
-        yield " ".join([f"{ccw['at']}  {ccw['image']}  {names.words}", *names.flags])
+def _label(address: str, area: Optional[AreaSource]) -> str:
+    """The name of an address in a job in symbols, after a blank."""
+    name = area.operand(int(address, 16)) if area is not None else None
+    return f" {name}" if name is not None else ""
 
 
-def _moved(step: Members) -> Iterator[str]:
-    if "moved" in step:
-        count, more = counted(step["moved"], "byte"), " ..." if step["more"] else ""
-        yield f"  {count} {step['way']} {step['address']}: {shown(step['bytes'])}{more}"
+def _further_rounds(fold: Fold) -> str:
+    """The line of the further rounds of a loop, with its place at the end of the last one."""
+    count = len(fold.first)
+    what = "command" if count == 1 else f"{count} commands"
+    places = (step.place for step in reversed(fold.last) if step.place)
+    last = next(places, None)
+    end = f", up to {_where(members(last))}" if last is not None else ""
+    return f"{_INDENT}... the same {what} {counted(fold.times - 1, 'more time')}{end}\n"
 
 
-def _place(place: Members) -> str:
+def _track(place: Members) -> str:
+    return f"cylinder {place['cylinder']} head {place['head']}"
+
+
+def _where(place: Members) -> str:
+    """A place on a medium."""
     if "item" in place:
         return f"item {place['item']}"
     if "page" in place:
         return f"page {place['page']} line {place['line']}"
-    track = f"cylinder {place['cylinder']} head {place['head']}"
-    if "passed" in place:
-        return f"no record found on {track} after {counted(place['passed'], 'record')}"
     record = f"ID {place['id']}" if "id" in place else f"record {place['record']}"
-    if "equal" not in place:
-        return f"{track} {record}"
-    key = f", key {place['key']}" if "key" in place else ""
-    return f"{track} {record}{key}: {'equal' if place['equal'] else 'not equal'}"
+    return f"{_track(place)} {record}"
 
 
-def _ending(step: Members) -> str:
+def _ending(step: Members, area: Optional[AreaSource]) -> str:
     if "rule" in step:
-        return _program_check(step)
+        return _program_check(step, area)
     status, sense = step["status"], step["sense"]
     parts = [f"status {status} residual {step['residual']}"]
     parts += names_of(int(status, 16) & ~NORMAL_END, STATUS_BITS)
     if sense is None:
-        parts.append(f"on to {step['next']}")
+        parts.append(f"on to {step['next']}{_label(step['next'], area)}")
     elif sense != "0000":
         parts += [f"sense {sense}", *names_of(int(sense, 16), SENSE_BITS)]
     if step["fault"] is not None:
@@ -79,9 +158,11 @@ def _ending(step: Members) -> str:
     return ", ".join(parts)
 
 
-def _program_check(step: Members) -> str:
+def _program_check(step: Members, area: Optional[AreaSource]) -> str:
     """The rule that a CCW breaks, and the CCW, unless a line before has it."""
     rule = step["rule"]
     has_line = any(ccw["at"] == rule["at"] for ccw in step["ccws"])
     image = "" if has_line or rule["image"] is None else f"  {rule['image']}"
-    return f"program check at {rule['at']}{image}: {rule['text']}"
+    line = area.line(int(rule["at"], 16)) if area is not None else None
+    source = f", line {line}" if line is not None and not has_line else ""
+    return f"program check at {rule['at']}{image}{source}: {rule['text']}"

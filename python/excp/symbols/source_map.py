@@ -90,8 +90,8 @@ class SourceMap:
         return self.areas[request.area]
 
     def statement(self, line: int) -> str:
-        """What a line says, without its comment and the blanks around it."""
-        return before_comment(self.lines[line - 1]).strip(BLANKS + "\r")
+        """What a line says, without its comment and the blanks at its end."""
+        return before_comment(self.lines[line - 1]).rstrip(f"{BLANKS}\r")
 
 
 def source_map(assembled: Assembled) -> Optional[SourceMap]:
