@@ -3,7 +3,7 @@
 - A listing of each stored script that is not rejected, and of each sample, comes back to the same areas and the same other lines. What
   comes of a sample prints its posts.
 - So do listings of programs at random, with valid and odd IOBs, CCWs and data.
-- `tests/cases/listing/*.listing` has scripts and their listings, written by hand.
+- `tests/cases/listing/*.listing` has scripts and their listings, written by hand. A job in symbols is listed as it is written.
 - `tests/cases/listing/*.steps` has jobs in symbols and their reports with steps. So have the samples: but for their names they are
   those of the plain scripts, and each CCW has a line of the job with its mnemonic.
 - A job in symbols has the names and lines of its addresses, and the areas of its requests, as they are written in MAPPED and NAMES.
@@ -235,6 +235,7 @@ def cases(setup):
             yield case(name, has_steps, script, text, origin=f"{place}, by docs/ASSEMBLER.md and docs/SPECIFICATION.md")
     for file in sorted(glob.glob(f"{SAMPLES}/*.symbolic")):
         yield case(f"names in the steps of {os.path.basename(file)}", names_commands, file)
+        yield case(f"listing of {os.path.basename(file)}", comes_back, read(file))
     for file in sorted(os.listdir(SAMPLES)):
         if file.endswith(".script"):
             yield case(f"listing of {file}", is_sample, f"{SAMPLES}/{file.removesuffix('.script')}")

@@ -86,6 +86,7 @@ def _report(given: argparse.Namespace, name: Optional[str]) -> int:
 
 
 def _list(given: argparse.Namespace) -> int:
+    from ..symbols.job_listing import job_listing
     from ..symbols.listing import listing
 
     images = load_images(name_of(given.script), unit_files(given, "load"))
@@ -94,5 +95,8 @@ def _list(given: argparse.Namespace) -> int:
     if has_rejected_line(findings):
         print_findings(worth_printing(findings, script.script), given.script, ERRORS)
         return REJECTED
-    write_output([listing(with_sizes(script.script, images))])
+    if script.job is None:
+        write_output([listing(with_sizes(script.script, images))])
+    else:
+        write_output([job_listing(script)])
     return 0

@@ -11,13 +11,23 @@ from .words import Word
 
 
 class AreaLayout(NamedTuple):
-    """Where a job has an area: the line that opens it, its first address, the word that has set
-    each byte, if one has, and its labels. A plain area has only the first two."""
+    """Where a job has an area: the line that opens it, its first address, its bytes, the word that
+    has set each, if one has, its labels, and the address of the statement of each line. A plain
+    area has only the first two."""
 
     line: int
     base: int
+    image: bytes = b""
     setters: Sequence[Optional[Word]] = ()
     labels: Mapping[str, Label] = {}
+    statements: Mapping[int, int] = {}
+
+    def set_by(self, line: int, address: int) -> bytes:
+        """The bytes from an address on that a line has set."""
+        start = end = address - self.base
+        while end < len(self.setters) and (setter := self.setters[end]) and setter.line == line:
+            end += 1
+        return self.image[start:end]
 
 
 @dataclass(frozen=True)

@@ -251,9 +251,7 @@ class _Assembly:
         """Adds the plain line of the open area, with a word for each eight bytes."""
         self._open = None
         self.mistakes += area.end()
-        labels = area.labels.placed()
-        layout = AreaLayout(area.number.line, area.base, area.setters, labels)
-        self._add_area(area.labels, layout, area.base, len(area.image))
+        self._add_area(area.labels, area.layout(), area.base, len(area.image))
         digits = area.image.hex(" ", -8).upper() or "-"
         self._put(f"area {area.number.text} {area.base & HIGHEST_ADDRESS:06X} {digits}")
 

@@ -5,7 +5,7 @@ from __future__ import annotations
 
 import struct
 from collections import defaultdict
-from typing import Iterator, NamedTuple, Optional
+from typing import Iterator, Mapping, NamedTuple, Optional
 
 from ..device_commands import DEVICES, FLAGS, Op, command_of
 from ..script.ccw import RESERVED, PlacedCcw
@@ -46,11 +46,17 @@ class _Row(NamedTuple):
         """The statement with the comment beside it. Further lines have further bytes."""
         name, operands = self.statement
         code, note = f"{label:{_OPERATION}}{name:{_NAME}}{operands}", self.note
-        for start in range(0, max(1, len(self.beside)), _BESIDE):
-            beside = self.beside[start : start + _BESIDE].hex().upper()
-            place = f"{code:{_COMMENT}} ; {self.at + start:06X}"
-            yield " ".join(it for it in (place, beside, note) if it)
-            code = note = ""
+        for line in beside(code, self.at, self.beside):
+            yield f"{line} {note}" if note else line
+            note = ""
+
+
+def beside(code: str, address: int, image: bytes) -> Iterator[str]:
+    """A statement with its address and its bytes in a comment. Further lines have further bytes."""
+    for start in range(0, max(1, len(image)), _BESIDE):
+        digits = image[start : start + _BESIDE].hex().upper()
+        yield f"{code:{_COMMENT}} ; {address + start:06X} {digits}".rstrip()
+        code = ""
 
 
 class _Requests:
@@ -73,19 +79,25 @@ class _Requests:
 def listing(script: bytes) -> bytes:
     """The listing of a plain script that a run accepts. Of any other script, a line that has a
     fault stays as it is."""
+    areas = listed_areas(script)
+    lines = enumerate(script.decode("latin-1").split("\n"), 1)
+    return "\n".join(areas.get(number, line) for number, line in lines).encode("latin-1")
+
+
+def listed_areas(script: bytes) -> Mapping[int, str]:
+    """The areas of a plain script in symbols, by the numbers of their lines."""
     lines = script.decode("latin-1").split("\n")
     words = [[it for it in line.split(" ") if it] or [""] for line in lines]
     requests = _Requests(words)
-    number = 0
-    for place, line in enumerate(words):
+    areas: dict[int, str] = {}
+    for number, line in enumerate(words, 1):
         storage = _storage(line) if line[0] == "area" else None
         if storage is not None:
-            for iob, device in requests.by_area[number]:
+            for iob, device in requests.by_area[len(areas)]:
                 storage.add_request(iob, device)
-            opening = f"area {number} {storage.base:06X}"
-            lines[place] = "\n".join((opening, *_statements(storage), "endarea"))
-            number += 1
-    return "\n".join(lines).encode("latin-1")
+            opening = f"area {len(areas)} {storage.base:06X}"
+            areas[number] = "\n".join((opening, *_statements(storage), "endarea"))
+    return areas
 
 
 def _storage(words: list[str]) -> Optional[Storage]:

@@ -1,4 +1,5 @@
-"""A symbolic area while it is assembled: its bytes, the word that has set each, and its labels."""
+"""A symbolic area while it is assembled: its bytes, the word that has set each, its labels, and the
+addresses of its statements."""
 
 from __future__ import annotations
 
@@ -6,6 +7,7 @@ from typing import NamedTuple, Optional
 
 from ..findings import FaultName
 from ..script.limits import HIGHEST_ADDRESS, MOST_AREA_BYTES
+from .assembled import AreaLayout
 from .labels import Labels
 from .mistakes import Located, Mistake
 from .words import Word
@@ -35,6 +37,8 @@ class OpenArea:
         self.number, self.base, self.labels = number, base, Labels()
         self.image = bytearray()
         self.setters: list[Optional[Word]] = []
+        # The address of the statement of each line.
+        self.statements: dict[int, int] = {}
         # The name of the statement that is assembled.
         self.statement = number
         # The place of the next statement, in bytes from the base.
@@ -84,6 +88,17 @@ class OpenArea:
             raise Mistake(FaultName.AREA, _OUTSIDE)
         self.image += bytes(max(0, place - len(self.image)))
         self._next = place
+
+    def layout(self) -> AreaLayout:
+        """Where the area is, once it has ended."""
+        return AreaLayout(
+            self.number.line,
+            self.base,
+            bytes(self.image),
+            self.setters,
+            self.labels.placed(),
+            self.statements,
+        )
 
     def end(self) -> list[Located]:
         """Sets the bytes of all references. Returns the mistakes in them."""

@@ -126,6 +126,7 @@ def put_statement(area: OpenArea, line: Word) -> None:
     if area.here % boundary:
         area.leave(-area.here % boundary)
     defined = Label(area.here, 0 if word.text else None)
+    area.statements[line.line] = area.here
     if label is not None:
         area.labels.define(label, defined)
     if word.text:
