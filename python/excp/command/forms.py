@@ -3,18 +3,15 @@
 from __future__ import annotations
 
 from dataclasses import dataclass, replace
-from typing import TYPE_CHECKING, Callable, Iterator, Mapping, Optional, Sequence
+from typing import Callable, Iterator, Mapping, Optional, Sequence
 
 from ..reporting.look import Look
 from ..reporting.record import Record
+from ..symbols.source_map import SourceMap
 from .options import MOST, words_of
 
-if TYPE_CHECKING:
-    # a form that has no names does not wait for it
-    from ..symbols.source_map import SourceMap
-
 # What gives the names of a job in symbols. A plain script has none.
-Names = Callable[[], "Optional[SourceMap]"]
+Names = Callable[[], Optional[SourceMap]]
 
 # The names of the forms that have each command as text. The second prints each round of a loop.
 STEPS, ALL_STEPS = "steps", "all-steps"

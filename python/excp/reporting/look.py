@@ -18,6 +18,8 @@ if TYPE_CHECKING:
 # The completion code of a request whose program ended well.
 _WELL = "7F"
 
+_ASCII = bytes(byte if 0x20 <= byte < 0x7F else 0x2E for byte in range(256))
+
 _LINE = re.compile("^.+$", re.M)
 _IN_RED = f"{RED}\\g<0>{PLAIN}"
 
@@ -53,4 +55,4 @@ class Look:
 
 def in_ascii(data: bytes) -> str:
     """Bytes as ASCII, with a dot for each that cannot be seen."""
-    return "".join(chr(byte) if 0x20 <= byte < 0x7F else "." for byte in data)
+    return data.translate(_ASCII).decode("ascii")

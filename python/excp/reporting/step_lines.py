@@ -1,5 +1,5 @@
-"""The commands of channel programs in words: a line for each CCW, and then, two blanks further right,
-its data, its place on the medium and its end. Each line is a comment of a script."""
+"""The commands of channel programs in words: a line for each CCW, and then, two blanks further
+right, its data, its place on the medium and its end. Each line is a comment of a script."""
 
 from __future__ import annotations
 
@@ -40,27 +40,29 @@ class _StepText(NamedTuple):
 
 
 class StepLines:
-    """Makes the lines of commands of a kind of device."""
+    """Makes the lines of commands."""
 
-    def __init__(self, device: str, look: Look) -> None:
-        self._device, self._look = device, look
+    def __init__(self, look: Look) -> None:
+        self._look = look
         # a loop has the same steps again and again, at other places
         self._around_place = lru_cache(maxsize=1024)(self._made)
 
-    def lines(self, steps: Iterable[str], area: Optional[AreaSource]) -> Iterator[str]:
-        """The lines of the steps of one entry, whose program is in an area of a job in symbols, or
-        of a plain script."""
+    def lines(
+        self, device: str, steps: Iterable[str], area: Optional[AreaSource]
+    ) -> Iterator[str]:
+        """The lines of the steps of one entry of a kind of device, whose program is in an area of a
+        job in symbols, or of a plain script."""
         if self._look.folds_loops:
             for fold in folded([step_of(line) for line in steps]):
-                yield from (self._step(step, area) for step in fold.first)
+                yield from (self._step(device, step, area) for step in fold.first)
                 if fold.times > 1:
                     yield _further_rounds(fold)
         else:
-            yield from (self._step(step_of(line), area) for line in steps)
+            yield from (self._step(device, step_of(line), area) for line in steps)
 
-    def _step(self, step: Step, area: Optional[AreaSource]) -> str:
+    def _step(self, device: str, step: Step, area: Optional[AreaSource]) -> str:
         """The lines of a step."""
-        text = self._around_place(step.text, area)
+        text = self._around_place(device, step.text, area)
         place = f"{_INDENT}  {self._place(members(step.place))}\n" if step.place else ""
         lines = f"{text.before}{place}{text.after}"
         return self._look.failed(lines) if text.has_failed else lines
@@ -75,15 +77,17 @@ class StepLines:
         key = f", key {place['key']}{self._look.beside(place['key'])}" if "key" in place else ""
         return f"{_where(place)}{key}: {'equal' if place['equal'] else 'not equal'}"
 
-    def _made(self, text: str, area: Optional[AreaSource]) -> _StepText:
+    def _made(self, device: str, text: str, area: Optional[AreaSource]) -> _StepText:
         step = members(f"{text}}}")
         has_failed = "rule" in step or bool(int(step["status"], 16) & ~_WELL)
-        before = [*self._ccws(step, area), *self._moved(step, area)]
+        before = [*self._ccws(device, step, area), *self._moved(step, area)]
         return _StepText(_joined(before), _joined([f"  {_ending(step, area)}"]), has_failed)
 
-    def _ccws(self, step: Members, area: Optional[AreaSource]) -> Iterator[str]:
+    def _ccws(
+        self, device: str, step: Members, area: Optional[AreaSource]
+    ) -> Iterator[str]:
         for place, ccw in enumerate(step["ccws"]):
-            names = ccw_names(self._device, ccw["image"], place > 0)
+            names = ccw_names(device, ccw["image"], place > 0)
             words = " ".join([f"{ccw['at']}  {ccw['image']}  {names.words}", *names.flags])
             source = self._source(ccw["at"], area)
             yield f"{words:{_BEFORE_SOURCE}}{source}" if source else words

@@ -29,7 +29,8 @@ class StepLists:
     def __init__(self) -> None:
         self._texts = KeptText()
         # of each list where it is among the texts, and by its hash its number
-        self._starts, self._numbers = array("Q"), {}  # type: array[int], Dict[int, int]
+        self._starts = array("Q")
+        self._numbers: Dict[int, int] = {}
         # equal programs have equal lists
         self.number_of = lru_cache(maxsize=_RECENT)(self._number_of)
 

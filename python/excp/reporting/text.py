@@ -21,9 +21,10 @@ def text_report(record: Record, look: Look) -> Iterator[str]:
     yield from post_lines(record, look)
     for _ in record.all_of(*TASK_EVENTS):
         pass
+    steps = StepLines(look)
     while record.what == "unit":
         unit = members(record.take())
-        yield from _history_lines(record, unit, look)
+        yield from _history_lines(record, unit, look, steps)
         if record.what == "medium":
             yield from medium_lines(record, unit, look)
 
@@ -31,14 +32,16 @@ def text_report(record: Record, look: Look) -> Iterator[str]:
 def unit_history(lines: str) -> Iterator[str]:
     """The history of the unit whose record this is, as the library makes it."""
     record = Record(lines.splitlines(keepends=True))
-    return _history_lines(record, members(record.take()), Look())
+    look = Look()
+    return _history_lines(record, members(record.take()), look, StepLines(look))
 
 
-def _history_lines(record: Record, unit: Members, look: Look) -> Iterator[str]:
+def _history_lines(
+    record: Record, unit: Members, look: Look, steps: StepLines
+) -> Iterator[str]:
     """The events of a unit, whose line this is, and after each its commands."""
     number, device = unit["unit"], unit["kind"]
     yield f"# unit {number}: {device}, {counted(unit['entries'], 'entry', 'entries')}\n"
-    steps = StepLines(device, look)
     while record.what in _HISTORY:
         what, line = record.what, record.take()
         if what == "left_out":
@@ -48,4 +51,4 @@ def _history_lines(record: Record, unit: Members, look: Look) -> Iterator[str]:
         yield event_line(number, event, look)
         if what == "ran":
             area = look.area(event["task"], number, event["request"])
-            yield from steps.lines(record.all_of("step"), area)
+            yield from steps.lines(device, record.all_of("step"), area)

@@ -1,5 +1,5 @@
-"""Listings of jobs in symbols: each line as it is written, and beside each statement its address and
-its bytes. `assemble` makes the same script of it."""
+"""Listings of jobs in symbols: each line as it is written, and beside each statement its address
+and its bytes. `assemble` makes the same script of it."""
 
 from __future__ import annotations
 
