@@ -12,7 +12,8 @@ import subprocess
 import sys
 
 from groups import first_faults
-from harness import TOP, Case, encoded, require
+from groups.listing import same
+from harness import TOP, Case, decoded, encoded, require
 
 # How many cases of so many inputs there are, and in the long form.
 COUNT = 8
@@ -36,8 +37,9 @@ def loaded():
     """The package, which this process imports once."""
     from excp import checking, findings, symbols
     from excp.script import grammar
-    from excp.symbols import listing as _
+    from excp.symbols import job_listing, listing, source_map
 
+    assert job_listing and listing and source_map
     return checking, findings, symbols, grammar
 
 
@@ -48,9 +50,24 @@ def judge_text(text):
     plain = symbols.Assembled(text)
     if symbols.has_symbols(text) and not assembled.findings:
         plain = assembled
-    found = [*assembled.findings, *checking.check_script(plain), *checking.check_scenario(plain.script)]
+    of_script = checking.check_script(plain)
     symbols.listing.listing(plain.script)
-    return list(findings.printed(found, "job"))
+    if plain.job is not None:
+        look_up(symbols, plain, checking.has_rejected_line(of_script))
+    return list(findings.printed([*assembled.findings, *of_script, *checking.check_scenario(plain.script)], "job"))
+
+
+def look_up(symbols, assembled, is_rejected):
+    """Looks up addresses in and around each area of a job, and lists it. The listing of a job that is not rejected is assembled to the
+    same script."""
+    found = symbols.source_map.source_map(assembled)
+    for area in found.areas:
+        for address in range(area.base - 1, area.base + 100):
+            line = area.line(address)
+            assert line is None or found.statement(line)
+            assert area.label(address) in (None, area.operand(address))
+    again = symbols.assemble(symbols.job_listing.job_listing(assembled))
+    assert is_rejected or same(decoded(again.script)) == same(decoded(assembled.script))
 
 
 def changed(chance, text):
