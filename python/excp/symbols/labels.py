@@ -29,6 +29,7 @@ _NO_NUMBER = (
 _NO_LENGTH = (
     "this label is alone on its line, and has no length: put it before the statement that it names"
 )
+_NO_NAME = "no label follows: expected L'LABEL, the number of bytes of its statement"
 _NO_STATEMENT = "no statement follows whose address it could be: expected a label"
 
 
@@ -119,6 +120,8 @@ class Labels:
             return here
         if is_length(term):
             name = term.part(2)
+            if not name.text:
+                raise Mistake(FaultName.NUMBER, _NO_NAME, term)
             length = self.find(name, unknown).length
             if length is None:
                 raise Mistake(FaultName.NUMBER, _NO_LENGTH, name)

@@ -11,6 +11,7 @@ from ..findings import FaultName
 from ..script.device_faults import DEVICE_FAULTS
 from ..script.forms import listed
 from ..script.limits import MOST_EXTENTS
+from ..script.suggestions import nearest
 from .constants import value
 from .disk_extents import EXTENT_WORDS, NO_EXTENT, DeclaredUnit
 from .labels import Labels, is_length
@@ -31,7 +32,8 @@ _NO_VALUES = (
     "fill 80"
 )
 _NO_AT = "expected fault U at N NAME, as fault 0 at 3 data check"
-_NO_FAULT = f"not the name of a fault: expected {listed(DEVICE_FAULTS)}"
+_NO_FAULT = "not the name of a fault"
+_EXPECTED_FAULT = f"{_NO_FAULT}: expected {listed(DEVICE_FAULTS)}"
 # The first words of these names.
 _FAULT_WORDS = {name.partition(" ")[0] for name in DEVICE_FAULTS}
 _NO_EXCP = "an excp line has 8 words: excp T U DCB IOB A SHOW LEN"
@@ -73,8 +75,11 @@ def _rec_line(words: Operands, _units: Units) -> Iterator[str]:
     if "data" in texts:
         at = texts.index("data")
         key, data = key[:at], key[at + 1 :]
+    misplaced = [it for it in data or [] if it.text == "key"]
     if key and key[0].text != "key":
-        raise Mistake(FaultName.NUMBER, _NO_VALUES, key[0])
+        misplaced = key
+    if misplaced:
+        raise Mistake(FaultName.NUMBER, _NO_VALUES, misplaced[0])
     yield " "
     yield _digits(key[1:]) if key else "-"
     yield " "
@@ -102,7 +107,9 @@ def _fault_line(words: Operands, _units: Units) -> Iterator[str]:
     status = DEVICE_FAULTS.get(" ".join(it.text for it in words.take_all()))
     if status is None:
         name = left.part(len(left.text) - len(left.text.lstrip(BLANKS)))
-        raise Mistake(FaultName.NUMBER, _NO_FAULT, name)
+        meant = nearest(name.text, DEVICE_FAULTS)
+        text = _EXPECTED_FAULT if meant is None else _NO_FAULT
+        raise Mistake(FaultName.NUMBER, text, name, meant)
     yield f" {status}"
 
 

@@ -2,6 +2,7 @@
 
 from __future__ import annotations
 
+import re
 from typing import NamedTuple, Optional
 
 from ..findings import FaultName, Finding
@@ -11,6 +12,9 @@ from .words import Word
 
 # What is wrong with a word that begins a comment of another language.
 _COMMENT = "comments begin with ;"
+
+# How a text on a wrong word begins that serves for a missing one too.
+_NOT = re.compile(r"^not ((?:an?|the) [^:]+)")
 
 
 class Mistake(Exception):
@@ -47,7 +51,7 @@ class Mistake(Exception):
     def at(self, line: int) -> Finding:
         """The finding of this mistake in a line."""
         if self.word is None:
-            return Finding(line, self.text, self.name)
+            return Finding(line, _NOT.sub(r"\1 is missing", self.text), self.name)
         return Finding(line, f"{shown(self.word.text)}: {self.text}", self.name, self.word.column)
 
 
