@@ -63,7 +63,7 @@ FOUND = {
     "empty": "a block is empty, must have 1 to 65,535 bytes",
     "long": "a block is too long: more than 65,535 bytes, must have 1 to 65,535",
     "disk header cut": "the header of the image is cut short: @ of @ bytes",
-    "eye catcher": "the file is no image of a disk: it begins with `@`, must begin with `CKD_P370` or `CKD_C370`",
+    "eye catcher": "the file is no image of a disk: it begins with '@', must begin with 'CKD_P370' or 'CKD_C370'",
     "split": "the image is a part of a split volume, file @; copy the whole volume to one file",
     "heads": "a disk has 1 to 65,535 heads, and this one @",
     "track bytes": "a track has 30 to 65,549 bytes in an image, and this one @",

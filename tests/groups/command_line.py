@@ -369,7 +369,7 @@ FAULTY = [
 
 
 # What is said of a text that is given for an image.
-TEXT = "this is a text, not an image; `convert --to` makes an image of a script"
+TEXT = "this is a text, not an image; 'convert --to' makes an image of a script"
 
 
 def finds_what_check_finds(setup, words):

@@ -458,8 +458,8 @@ FBA = bytes(512) + "VOL1FBA001".encode("cp037").ljust(512, b"\0")
 
 # Files that are no image, and what is said of each.
 NO_IMAGES = [
-    (TAPE.encode(), "this is a text, not an image; `convert --to` makes an image of a script"),
-    ("é\r\n\tno script\n".encode(), "this is a text, not an image; `convert --to` makes an image of a script"),
+    (TAPE.encode(), "this is a text, not an image; 'convert --to' makes an image of a script"),
+    ("é\r\n\tno script\n".encode(), "this is a text, not an image; 'convert --to' makes an image of a script"),
     (b"\1\2\3\4\5\6\n", "byte 0: byte 5 of a header is 06, must be 00, or the file is no image of a tape"),
     (FBA, "this is an image of an FBA disk, which has blocks without count areas; CKD disks alone are supported"),
     (b"FBA_C370" + bytes(504), "this is an image of an FBA disk, which has blocks without count areas; CKD disks alone are supported"),
@@ -469,7 +469,7 @@ NO_IMAGES = [
     (b"CKD_P064" + bytes(504), "this is an image of a disk in the format CKD64; make one that begins with CKD_P370"),
     (
         b"CKD_P371" + bytes(504),
-        "byte 0: the file is no image of a disk: it begins with `CKD_P371`, must begin with `CKD_P370` or `CKD_C370`",
+        "byte 0: the file is no image of a disk: it begins with 'CKD_P371', must begin with 'CKD_P370' or 'CKD_C370'",
     ),
 ]
 

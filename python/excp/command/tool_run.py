@@ -171,13 +171,13 @@ def _said(order: Order, source: Source, status: int) -> int:
     if status == Status.REFUSED:
         findings = source.findings(load_images(name_of(order.script), order.loads))
         if not any(finding.is_fault for finding in findings):
-            raise error_of_program("the program rejects this script, and `check` finds no fault")
+            raise error_of_program("the program rejects this script, and 'check' finds no fault")
         print_findings(findings, source.file, ERRORS)
         return REJECTED
     if status == Status.NO_IMAGE:
         for name in order.loads.values():
             measured(name)
-        raise error_of_program("the program loads an image not, in which `describe` finds no fault")
+        raise error_of_program("the program loads an image not, in which 'describe' finds no fault")
     if status == Status.UNFIT:
         check_fit(source.units() or (), order.loads, order.saves)
         raise error_of_program("the program finds a file for no unit")

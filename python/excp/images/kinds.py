@@ -26,7 +26,7 @@ _FBA = (
     "this is an image of an FBA disk, which has blocks without count areas; CKD disks alone are "
     "supported"
 )
-_TEXT = "this is a text, not an image; `convert --to` makes an image of a script"
+_TEXT = "this is a text, not an image; 'convert --to' makes an image of a script"
 
 KINDS = (
     Kind(0, b"FBA_", _FBA),

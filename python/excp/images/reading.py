@@ -106,7 +106,7 @@ def disk_image(file: BinaryIO) -> Union[PlainDisk, PackedDisk]:
     begins = header[:8].decode("ascii", "replace")
     if not begins.isprintable():
         begins = f"X'{header[:8].hex().upper()}'"
-    more = f": it begins with `{begins}`, must begin with `CKD_P370` or `CKD_C370`"
+    more = f": it begins with '{begins}', must begin with 'CKD_P370' or 'CKD_C370'"
     raise ImageFault(DiskRule.EYE_CATCHER, 0, more)
 
 
