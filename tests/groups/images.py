@@ -815,6 +815,7 @@ REJECTED = [
     (["report", "--save", "0=new", "--save", "1=new.excp-new"], TAPE, "excp: new.excp-new: it is named for two units\n"),
     (["report", "--load", "0=tape", "--save", "0=/dev/null"], TAPE, "excp: /dev/null: it is a device or a pipe\n"),
     (["convert", "missing"], "", "excp: missing: there is no such file\n"),
+    (["convert", "--to", "aws", "-o", "new", "-"], "tasks 1\ntape 0 0 9\ntape 1 0 9\n", "excp: <stdin>: it has 2 units: a script with one"),
     (["describe", "missing", "disk"], "", "excp: missing: there is no such file\n"),
 ]
 

@@ -6,7 +6,7 @@ from typing import Optional
 
 from ..device_commands import DISK, TAPE
 from ..findings import Finding
-from ..script.forms import INDEX
+from ..script.forms import INDEX, LEFT_TO_IMAGE
 from ..script.grammar import SCRIPT_LINES
 from ..script.reading import Refused, Text, meant
 from .loaded import Images, on_missing_size
@@ -35,6 +35,6 @@ def _explanation(text: Text, images: Images) -> Optional[str]:
         if sign in text.line:
             return f"no words come after '{sign}' in a plain script: {_COMMENT}"
     unit = INDEX.read(text.word(1))
-    if text.first in (DISK, TAPE) and text.word(3) == "-" and unit is not None:
+    if text.first in (DISK, TAPE) and text.word(3) == LEFT_TO_IMAGE and unit is not None:
         return on_missing_size(unit, images)
     return None

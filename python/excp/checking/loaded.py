@@ -7,7 +7,7 @@ from typing import Mapping, Optional, Sequence
 from ..device_commands import DISK, TAPE
 from ..images.measured import DiskFile, MeasuredImage, TapeFile
 from ..script import grammar
-from ..script.forms import INDEX
+from ..script.forms import INDEX, LEFT_TO_IMAGE
 from ..script.media import Reason, fault_reasons
 from ..script.reading import Text, count_of
 from ..script.set_up import Unit
@@ -21,9 +21,6 @@ _MOST_TAPE_BYTES = 1 << 32
 
 _CONTENT = "the medium of this unit is an image: no line says what is on it"
 _FAULTS = "the faults of this unit are none that a device meets, or out of order"
-
-# What a word of a size is that is left to the image.
-_LEFT = "-"
 
 
 def kind_of(image: MeasuredImage) -> str:
@@ -46,11 +43,11 @@ def with_sizes(script: bytes, images: Images) -> bytes:
     lines = script.decode("latin-1").split("\n")
     for place, line in enumerate(lines):
         words = Text(line).words
-        unit = INDEX.read(words[1]) if len(words) > 3 and words[3] == _LEFT else None
+        unit = INDEX.read(words[1]) if len(words) > 3 and words[3] == LEFT_TO_IMAGE else None
         image = None if unit is None else images.get(unit)
         if image is not None and words[0] == kind_of(image):
             numbers = numbers_of(image)
-            if words[3:] in ([_LEFT], [_LEFT] * len(numbers)):
+            if words[3:] in ([LEFT_TO_IMAGE], [LEFT_TO_IMAGE] * len(numbers)):
                 lines[place] = " ".join([*words[:3], *map(str, numbers)])
     return "\n".join(lines).encode("latin-1")
 

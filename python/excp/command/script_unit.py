@@ -8,7 +8,7 @@ from ..checking import check_script, has_rejected_line
 from ..checking.loaded import NO_IMAGES
 from ..findings import FaultName, Finding
 from ..script.grammar import Command
-from ..script.reading import Text, lines_of, read_script_line
+from ..script.reading import Text, count_of, lines_of, read_script_line
 from ..script.set_up import SetUp, Unit
 from .script_file import read_plain, worth_printing
 from .streams import ERRORS, Rejected, name_of, of_file, print_findings
@@ -25,7 +25,8 @@ def unit_of_script(file: Optional[str], why_not: Callable[[Unit], Optional[str]]
     if has_rejected_line(findings):
         _reject(script.script, findings, file)
     units = _units_of(script.script)
-    why = why_not(units[0]) if len(units) == 1 else "a script with one unit makes an image"
+    has = f"it has {count_of(len(units), 'unit')}"
+    why = why_not(units[0]) if len(units) == 1 else f"{has}: a script with one makes an image"
     if why is not None:
         raise of_file(name_of(file), why)
     if any(it.name is FaultName.MEDIUM for it in findings):

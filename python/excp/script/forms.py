@@ -72,6 +72,9 @@ def _extent(word: str) -> Optional[Extent]:
     return Extent.from_bytes(bytes.fromhex(word))
 
 
+# The word in place of a size that is left to the image of a unit.
+LEFT_TO_IMAGE = "-"
+
 NUMBER = Form("a decimal number of 1 to 10 digits", _decimal)
 INDEX = _number_in(0, 63)
 HEX = Form("an even number of hexadecimal digits, or - for no byte", _bytes)

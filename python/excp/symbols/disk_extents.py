@@ -6,6 +6,7 @@ from typing import NamedTuple, Optional
 
 from ..device_commands import DEVICES, DISK
 from ..findings import FaultName
+from ..script.forms import LEFT_TO_IMAGE
 from ..script.limits import MOST_TRACKS
 from .mistakes import Mistake
 from .numbers import number_of, value_of
@@ -21,7 +22,8 @@ NO_EXTENT = (
 
 
 class DeclaredUnit(NamedTuple):
-    """A unit as far as extents need it: its number, its device, and the sizes of a disk."""
+    """A unit as far as extents need it: its number, its device, and the sizes of a disk, zeros if
+    its image has them."""
 
     number: int
     device: str
@@ -37,7 +39,8 @@ class DeclaredUnit(NamedTuple):
         if number is None or device not in DEVICES:
             return None
         unit = cls(number, device, value_of(words[3], 10) or 0, value_of(words[4], 10) or 0)
-        return unit if device != DISK or 1 <= unit.tracks <= MOST_TRACKS else None
+        is_known = device != DISK or words[3] == LEFT_TO_IMAGE or 1 <= unit.tracks <= MOST_TRACKS
+        return unit if is_known else None
 
     @property
     def tracks(self) -> int:
@@ -53,6 +56,9 @@ class DeclaredUnit(NamedTuple):
         if self.device != DISK:
             kinds = f"unit {self.number} is a {self.device}, and extents are of disks"
             raise Mistake(FaultName.EXTENT, kinds, word)
+        if not self.tracks:
+            wanted = f"expected the image of a disk, by --load {self.number}=FILE"
+            raise Mistake(FaultName.NUMBER, f"unit {self.number} has no size: {wanted}", word)
         if word.text == "all":
             return 0, self.tracks - 1
         first = self._track(word, words)
