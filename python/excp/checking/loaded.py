@@ -8,6 +8,7 @@ from ..device_commands import DISK, TAPE
 from ..images.measured import DiskFile, MeasuredImage, TapeFile
 from ..script import grammar
 from ..script.forms import INDEX, LEFT_TO_IMAGE
+from ..script.limits import MOST_IMAGE_TAPE_BYTES
 from ..script.media import Reason, fault_reasons
 from ..script.reading import Text, count_of
 from ..script.set_up import Unit
@@ -15,9 +16,6 @@ from ..script.set_up import Unit
 # The images of units by their numbers.
 Images = Mapping[int, MeasuredImage]
 NO_IMAGES: Images = {}
-
-# The most bytes of a tape from an image.
-_MOST_TAPE_BYTES = 1 << 32
 
 _CONTENT = "the medium of this unit is an image: no line says what is on it"
 _FAULTS = "the faults of this unit are none that a device meets, or out of order"
@@ -98,8 +96,8 @@ def _wrong_size(unit: Unit, image: MeasuredImage) -> Optional[str]:
         return f"the image has {cylinders}, and {size.track_bytes} bytes a track"
     if isinstance(image, TapeFile) and isinstance(says, grammar.Tape):
         counted = count_of(says.size, "byte")
-        if says.size > _MOST_TAPE_BYTES:
-            return f"{counted}: a tape from an image has at most {_MOST_TAPE_BYTES}"
+        if says.size > MOST_IMAGE_TAPE_BYTES:
+            return f"{counted}: a tape from an image has at most {MOST_IMAGE_TAPE_BYTES}"
         if image.used > says.size:
             return f"the tape holds {counted}, but its image needs {image.used}"
         return None

@@ -11,6 +11,7 @@ import struct
 from dataclasses import dataclass, field
 from typing import BinaryIO, Iterable, Iterator, List, NamedTuple, Optional, Tuple
 
+from ..script.limits import MOST_DATA_BYTES, MOST_IMAGE_TAPE_BYTES
 from .faults import ImageFault, TapeRule
 from .media import TapeItem, item_bytes
 from .packing import Packing, TooLong, Unpackable, packed, unpacked
@@ -22,9 +23,6 @@ MARK, WHOLE, FIRST, MIDDLE, LAST = 0x40, 0xA0, 0x80, 0x00, 0x20
 PACKING_BITS = 0x03
 ENDS_BLOCK = 0x20
 KNOWN_FLAGS = "40, A0, 80, 00 or 20; of compressed data A1, 81, 01, 21, A2, 82, 02 or 22"
-
-LONGEST_BLOCK = 65_535
-LONGEST_TAPE = 1 << 32
 
 # The level of zlib in an image that Hercules makes (hetlib.h, HETDFLT_LEVEL).
 HET_LEVEL = 4
@@ -67,11 +65,11 @@ def read_items(file: BinaryIO) -> Iterator[ReadItem]:
         used = 0
         for offset, item in _items_of_chunks(file):
             used += item_bytes(item.data)
-            if used > LONGEST_TAPE:
+            if used > MOST_IMAGE_TAPE_BYTES:
                 raise ImageFault(
                     TapeRule.ROOM,
                     offset,
-                    f", must have at most {LONGEST_TAPE:,} bytes of blocks and marks",
+                    f", must have at most {MOST_IMAGE_TAPE_BYTES:,} bytes of blocks and marks",
                 )
             yield item
     except OSError as error:
@@ -161,7 +159,7 @@ def _append(block: _OpenBlock, data: bytes, offset: int) -> None:
     itself."""
     block.parts.append(data)
     block.length += len(data)
-    if block.length > LONGEST_BLOCK:
+    if block.length > MOST_DATA_BYTES:
         raise _too_long(offset)
 
 
@@ -169,7 +167,7 @@ def _too_long(offset: int) -> ImageFault:
     return ImageFault(
         TapeRule.SHORT_BLOCK,
         offset,
-        f": more than {LONGEST_BLOCK:,} bytes, must have 1 to {LONGEST_BLOCK:,}",
+        f": more than {MOST_DATA_BYTES:,} bytes, must have 1 to {MOST_DATA_BYTES:,}",
     )
 
 
@@ -177,13 +175,13 @@ def _whole(block: _OpenBlock, offset: int) -> ReadItem:
     """A block whose last chunk was read, the header of which is at this offset."""
     packing = Packing(block.packing)
     try:
-        data = unpacked(b"".join(block.parts), packing, LONGEST_BLOCK)
+        data = unpacked(b"".join(block.parts), packing, MOST_DATA_BYTES)
     except TooLong as error:
         raise _too_long(block.offset) from error
     except Unpackable as error:
         raise ImageFault(TapeRule.PACKED_DATA, block.offset, f": {error}") from error
     if not data:
-        raise ImageFault(TapeRule.SOME_DATA, offset, f", must have 1 to {LONGEST_BLOCK:,} bytes")
+        raise ImageFault(TapeRule.SOME_DATA, offset, f", must have 1 to {MOST_DATA_BYTES:,} bytes")
     return ReadItem(data, packing)
 
 

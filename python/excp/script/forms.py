@@ -7,6 +7,7 @@ from dataclasses import dataclass
 from typing import Annotated, Any, Callable, Generic, Iterable, Optional, TypeVar
 
 from ..blocks import Extent
+from .limits import MOST_TASKS, MOST_UNITS
 
 Value = TypeVar("Value")
 
@@ -76,12 +77,12 @@ def _extent(word: str) -> Optional[Extent]:
 LEFT_TO_IMAGE = "-"
 
 NUMBER = Form("a decimal number of 1 to 10 digits", _decimal)
-INDEX = _number_in(0, 63)
+INDEX = _number_in(0, max(MOST_TASKS, MOST_UNITS) - 1)
 HEX = Form("an even number of hexadecimal digits, or - for no byte", _bytes)
 
 # The types of fields, each with the form of its word, or of all words from it on.
 Number = Annotated[int, NUMBER]
-Count = Annotated[int, _number_in(1, 64)]
+Count = Annotated[int, _number_in(1, MOST_TASKS)]
 Index = Annotated[int, INDEX]
 Subclass = Annotated[int, _number_in(0, 7)]
 Octet = Annotated[int, _number_in(0, 255)]

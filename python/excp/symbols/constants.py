@@ -6,6 +6,7 @@ import re
 from typing import Iterable, NamedTuple, Optional
 
 from ..findings import FaultName
+from ..script.limits import MOST_DATA_BYTES
 from .mistakes import Mistake
 from .numbers import number, value_of
 from .words import Word
@@ -13,8 +14,8 @@ from .words import Word
 # EBCDIC, code page 037, in constants and in listings.
 EBCDIC = "cp037"
 
-# The most bytes of a value outside of areas, and the most repeats of a constant.
-_MOST_BYTES = 65_535
+# The most repeats of a constant.
+_MOST_TIMES = MOST_DATA_BYTES
 
 # A constant whose text goes on to the end of its line. Apostrophes that come twice are of the text.
 _UNCLOSED = re.compile(r"[0-9]*(X|CA|C)'(([^']|'')*[^'])?")
@@ -45,7 +46,7 @@ class _Constant(NamedTuple):
     pad: bytes
 
 
-def value(words: Iterable[Word], most: int = _MOST_BYTES) -> bytes:
+def value(words: Iterable[Word], most: int = MOST_DATA_BYTES) -> bytes:
     """The bytes of constants and `fill N`, at most so many."""
     image = bytearray()
     pad: Optional[bytes] = None
@@ -83,7 +84,7 @@ def _constant(word: Word) -> _Constant:
     if _UNCLOSED.fullmatch(word.text) or (has_lone and _GOES_ON.match(word.text)):
         raise Mistake(FaultName.NUMBER, _NOT_CLOSED, word)
     times = value_of(found[1] or "1", 10) if found else None
-    if found is None or times is None or not 1 <= times <= _MOST_BYTES:
+    if found is None or times is None or not 1 <= times <= _MOST_TIMES:
         raise Mistake(FaultName.NUMBER, _NO_CONSTANT, word)
     kind, text = found[2], found[3]
     if kind == "X":
