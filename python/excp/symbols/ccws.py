@@ -4,6 +4,7 @@ from __future__ import annotations
 
 from ..device_commands import FLAGS, DeviceCommand, Op
 from ..findings import FaultName
+from ..script.forms import listed
 from .labels import is_length
 from .mistakes import Mistake
 from .numbers import number
@@ -17,7 +18,7 @@ _LACKS = (
 )
 _NO_CODE = "not a command code: expected a number from 0 to 255, as X'31'"
 _NO_COUNT = "not a count: expected a number from 0 to 65535, or L'LABEL"
-_NO_FLAG = "not a flag: expected CD, CC, SLI, SKIP, PCI or IDA"
+_NO_FLAG = f"not a flag: expected {listed(FLAGS)}"
 
 
 def put_transfer(area: OpenArea, operands: Operands) -> None:

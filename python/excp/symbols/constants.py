@@ -6,7 +6,7 @@ import re
 from typing import Iterable, NamedTuple, Optional
 
 from ..findings import FaultName
-from ..script.limits import MOST_DATA_BYTES
+from ..script.limits import MOST_AREA_BYTES, MOST_DATA_BYTES
 from .mistakes import Mistake
 from .numbers import number, value_of
 from .words import Word
@@ -26,7 +26,8 @@ _GOES_ON = re.compile(r"[0-9]*(X|CA|C)'[^']*[ \t,][0-9]*(X|CA|C)'")
 _CONSTANT = re.compile(r"([0-9]*)(X|CA|C)'(.*)'")
 
 _NO_FILL = (
-    "not a number of bytes: expected at most 65535, and in an area at most 8192, as fill 80"
+    f"not a number of bytes: expected at most {MOST_DATA_BYTES}, and in an area at most "
+    f"{MOST_AREA_BYTES}, as fill 80"
 )
 _NO_CONSTANT = (
     "not a constant: expected X'DIGITS', C'TEXT' or CA'TEXT', with a number of repeats before it "
@@ -34,7 +35,9 @@ _NO_CONSTANT = (
 )
 _NOT_CLOSED = "no apostrophe ends this constant: expected one after its digits or its text"
 _NO_BYTES = "not bytes: expected an even number of hexadecimal digits, at least 2"
-_TOO_LONG = "too long: a value has at most 65535 bytes, and in an area 8192"
+_TOO_LONG = (
+    f"too long: a value has at most {MOST_DATA_BYTES} bytes, and in an area {MOST_AREA_BYTES}"
+)
 _NOTHING_TO_FILL = "nothing comes before this that could be filled: expected a constant"
 
 

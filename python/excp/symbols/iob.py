@@ -5,6 +5,7 @@ from __future__ import annotations
 from typing import Mapping, NamedTuple
 
 from ..findings import FaultName
+from ..script.forms import listed
 from .mistakes import Mistake
 from .open_area import OpenArea
 from .operands import DCB, EXTENT, RECORD, TRACK, Field
@@ -35,9 +36,8 @@ _LACKS = (
     "seek=CYLINDER,HEAD,RECORD"
 )
 _NO_VALUE = "expected a value after this, as ecb=LABEL, with no blank around ="
-_NO_OPERAND = (
-    "not an operand of an IOB: expected ecb=, start=, dcb=, seek=, extent=, related or unrelated"
-)
+_EXPECTED = listed([*(f"{name}=" for name in _OPERANDS), *_RELATIONS])
+_NO_OPERAND = f"not an operand of an IOB: expected {_EXPECTED}"
 
 
 def put_iob(area: OpenArea, operands: Operands) -> None:

@@ -10,6 +10,7 @@ from typing import Callable, Iterator, Mapping, NamedTuple, Optional, Sequence
 from ..findings import FaultName
 from ..script.device_faults import DEVICE_FAULTS
 from ..script.forms import listed
+from ..script.grammar import Excp
 from ..script.limits import MOST_EXTENTS
 from ..script.suggestions import nearest
 from .constants import value
@@ -36,7 +37,7 @@ _NO_FAULT = "not the name of a fault"
 _EXPECTED_FAULT = f"{_NO_FAULT}: expected {listed(DEVICE_FAULTS)}"
 # The first words of these names.
 _FAULT_WORDS = {name.partition(" ")[0] for name in DEVICE_FAULTS}
-_NO_EXCP = "an excp line has 8 words: excp T U DCB IOB A SHOW LEN"
+_NO_EXCP = f"an excp line has 8 words: excp {Excp.form}"
 _NO_AREA = "no area before this line has this number: the first area is 0"
 
 

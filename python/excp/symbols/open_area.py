@@ -13,10 +13,10 @@ from .mistakes import Located, Mistake
 from .words import Word
 
 _OUTSIDE = (
-    "this is outside of the area: an area has at most 8192 bytes, and ends at X'FFFFFF' at the "
-    "latest"
+    f"this is outside of the area: an area has at most {MOST_AREA_BYTES} bytes, and ends at "
+    f"X'{HIGHEST_ADDRESS:X}' at the latest"
 )
-_NO_TARGET = "this address is outside of the area: expected one in its 8192 bytes"
+_NO_TARGET = f"this address is outside of the area: expected one in its {MOST_AREA_BYTES} bytes"
 _NOT_YET_DEFINED = "no earlier statement of this area has this label, and ORG needs one"
 
 

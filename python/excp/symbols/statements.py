@@ -7,6 +7,7 @@ from typing import Callable, Mapping, NamedTuple
 
 from ..device_commands import DEVICE_COMMANDS
 from ..findings import FaultName
+from ..script.forms import listed
 from ..script.limits import MOST_AREA_BYTES
 from ..script.suggestions import nearest
 from .ccws import put_any_command, put_command, put_transfer
@@ -36,9 +37,11 @@ _VERBS: Mapping[str, str] = {
     "NOOP": "NOP",
 }
 
-_NO_SIZE = "not a number of bytes: expected 0 to 8192, or 0D, 0F or 0H for a boundary"
+_NO_SIZE = (
+    f"not a number of bytes: expected 0 to {MOST_AREA_BYTES}, or {listed(_BOUNDARIES)} for a "
+    "boundary"
+)
 _UNKNOWN = "no statement has this name"
-_EXPECTED = "expected a mnemonic, IOB, ECB, DC, DS, IDAW, CCHHR, COUNT, ORG, TIC, CCW or endarea"
 _NO_COLON = "a statement follows this word: put a colon after a label"
 _LONE_COMMA = "a comma has no operand before it or after it"
 
@@ -97,8 +100,8 @@ class _Operation(NamedTuple):
     put: _Put
 
 
-_OPERATIONS: Mapping[str, _Operation] = {
-    **{it.mnemonic: _Operation(8, partial(put_command, it)) for it in DEVICE_COMMANDS},
+# The operations that are no mnemonics.
+_OTHERS: Mapping[str, _Operation] = {
     "IOB": _Operation(4, put_iob),
     "ECB": _Operation(4, _put_ecb),
     "DC": _Operation(1, _put_constant),
@@ -110,6 +113,13 @@ _OPERATIONS: Mapping[str, _Operation] = {
     "TIC": _Operation(8, put_transfer),
     "CCW": _Operation(8, put_any_command),
 }
+
+_OPERATIONS: Mapping[str, _Operation] = {
+    **{it.mnemonic: _Operation(8, partial(put_command, it)) for it in DEVICE_COMMANDS},
+    **_OTHERS,
+}
+
+_EXPECTED = f"expected {listed(['a mnemonic', *_OTHERS, 'endarea'])}"
 
 
 def put_statement(area: OpenArea, line: Word) -> None:
