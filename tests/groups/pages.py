@@ -16,6 +16,7 @@ import tempfile
 
 import browser
 import pages
+import programs
 from groups.costs import STARTER
 from groups.reports import as_json, stored
 from groups.scenarios import scenarios
@@ -276,6 +277,7 @@ def shows_its_facts(it, file, run_of_page):
         require(wide <= width, f"the page is {wide} pixels wide in a window of {width}")
         for what, value in actual.items():
             require(value == wanted[what], f"{what} at {width} pixels: {value}, and not {wanted[what]}")
+    programs.check_programs(run_of_page, it.value(programs.CELLS), it.value("document.querySelector('.ends, .share') !== null"))
     requests = list(pages.requests_of(run_of_page))
     for request, panel in zip(requests, it.value(PANELS % json.dumps([request[0] for request in requests])), strict=True):
         pages.check_panel(run_of_page, request, panel)

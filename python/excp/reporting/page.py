@@ -20,10 +20,10 @@ from .run_json import RunJson
 
 _VIEWER = Path(__file__).resolve().parents[1] / "viewer"
 
-STYLES = "page lanes panel media paper".split()
+STYLES = "page lanes programs panel media paper".split()
 SCRIPTS = (
     "names dom model waits layout signs legend density overview bars drawing lanes moving panel "
-    "steps media disk tape paper ends list units posts filter print page"
+    "attempts steps places programs media disk tape paper ends list units posts filter print page"
 ).split()
 
 # A part of the page that every run has.

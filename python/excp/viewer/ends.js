@@ -1,6 +1,16 @@
 /** @file How the requests ended, in groups, by unit and by task. */
 
 const NAMED = 3;
+/** A run with fewer requests has no tables: its lanes show all that they say. */
+const FEWEST_IN_TABLES = 10;
+
+const hasTables = ({ requests }) => requests.length >= FEWEST_IN_TABLES;
+
+function tablesOf(model) {
+  if (!hasTables(model)) return othersOf(model);
+  return [el("h2", null, "How requests ended"), ...endsTable(model), el("div", { class: "columns" },
+    el("div", null, el("h3", null, "By unit"), unitsTable(model)), el("div", null, el("h3", null, "By task"), tasksTable(model)))];
+}
 
 /** How a request ended, in words that are alike for requests that ended alike. */
 function mannerOf(model, request) {

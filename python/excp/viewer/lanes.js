@@ -53,7 +53,7 @@ class Lanes {
     const tally = (isTask ? taskTallies : unitTallies)[lane.number];
     const toggle = () => { lane.isOpen = !lane.isOpen; arrangeLane(this.model, lane); this.arrange(); };
     return el("div", { class: "label", style: { height: `${lane.height}px` } },
-      el("a", { href: isTask ? "#tables" : `#unit${lane.number}` }, `${isTask ? "Task" : "Unit"} ${lane.number}`),
+      el(isTask ? "b" : "a", isTask ? null : { href: `#unit${lane.number}` }, `${isTask ? "Task" : "Unit"} ${lane.number}`),
       el("span", null, isTask ? "" : ` ${run.units[lane.number].kind}`), el("small", null, codesInWords(tally.codes)),
       lane.isCrowded ? button(lane.isOpen ? "fewer rows" : "all rows", "Rows of requests that overlap", toggle) : null);
   }

@@ -21,6 +21,7 @@ class Page {
     this.lanes = new Lanes(this.model, this.state);
     this.overview = new Overview(this.lanes);
     this.list = new RequestList(this.model, this.state);
+    this.programs = null;
     this.lanes.onview = (view) => this.overview.show(view);
     this.panel = el("aside", { class: "panel", hidden: true, tabindex: -1, "aria-label": "Details" });
     this.tip = el("div", { class: "tip", role: "status", hidden: true });
@@ -31,7 +32,7 @@ class Page {
     const lead = `${counted(requests.length, "request")} of ${counted(run.tasks, "task")} to ${counted(run.units.length, "unit")}, `
       + counted(length, "event");
     const controls = filterControls(this.model, this.filter, () => this.refilter());
-    byId("head").append(el("p", { class: "dim" }, lead), shareOf(this.model), controls);
+    byId("head").append(el("p", { class: "dim" }, lead), hasTables(this.model) ? shareOf(this.model) : "", controls);
     byId("run").append(patterns(), this.tools(), this.overview.root, this.lanes.scroller, el("div", { id: "printed" }),
       el("p", { class: "dim note" }, this.note()));
     document.body.append(this.panel, this.tip);
@@ -44,8 +45,9 @@ class Page {
 
   buildRest() {
     const { model } = this;
-    byId("tables").append(el("h2", null, "How requests ended"), ...endsTable(model), el("div", { class: "columns" },
-      el("div", null, el("h3", null, "By unit"), unitsTable(model)), el("div", null, el("h3", null, "By task"), tasksTable(model))));
+    this.programs = new Programs(model, this.state);
+    if (this.programs.lanes.length) byId("programs").append(el("h2", null, "The programs, command by command"), this.programs.root);
+    byId("tables").append(...tablesOf(model));
     byId("requests").append(el("h2", null, "Requests"), this.list.root);
     byId("media").append(el("h2", null, "Units, and their media at the end"), ...model.run.units.map((unit) => unitSection(model, unit)));
     this.list.filter();
@@ -60,6 +62,7 @@ class Page {
     this.lanes.arrange();
     this.overview.draw();
     this.list.filter();
+    this.programs?.filter();
   }
 
   tools() {

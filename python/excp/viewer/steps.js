@@ -1,4 +1,4 @@
-/** @file The steps of a request: its attempts, their commands, and where each was on the medium. */
+/** @file The steps of a request: the commands of its attempts. */
 
 /** The most steps of an attempt that are shown. */
 const FIRST_STEPS = 120;
@@ -7,9 +7,8 @@ const LAST_STEPS = 40;
 /** The steps of the attempts of a request; those with equal steps in a row are one. */
 function stepsOfAttempts(model, request) {
   if (!request.runs.length) return [];
-  return sameInARow(model, attemptsOf(request)).map(({ numbers, runs }) => {
+  return attemptGroups(model, request).map(({ numbers, runs, steps }) => {
     const title = request.starts.length > 1 ? `Attempt${numbers.length > 1 ? "s" : ""} ${rangeOf(numbers)}` : "Steps";
-    const steps = joinLoops(runs.flatMap(({ event }) => stepsOf(model, event)));
     const isLeftOut = runs.some(({ event }) => event.left_out);
     return part(title, el("div", { class: "steps" }, stepList(model.run.units[request.unit], steps)),
       isLeftOut ? el("p", { class: "dim" }, "Further steps were left out.") : null);
@@ -17,39 +16,6 @@ function stepsOfAttempts(model, request) {
 }
 
 const rangeOf = (numbers) => (numbers.length > 1 ? `${numbers[0]} to ${lastOf(numbers)}, all alike but for their faults` : numbers[0]);
-
-function sameInARow(model, attempts) {
-  const groups = [];
-  for (const { number, runs } of attempts) {
-    const withoutFault = (step) => (step.loop ? step : { ...step, fault: Boolean(step.fault) });
-    const key = JSON.stringify(runs.map(({ event }) => stepsOf(model, event).map(withoutFault)));
-    const last = lastOf(groups);
-    if (last?.key === key) last.numbers.push(number);
-    else groups.push({ key, numbers: [number], runs });
-  }
-  return groups;
-}
-
-/** A loop as text, without its places. */
-const loopAsText = (loop) => JSON.stringify(loop, (name, value) => (/place$/.test(name) ? undefined : value));
-
-/** Loops that go on over the end of a turn, as one. */
-function joinLoops(steps) {
-  const joined = [];
-  for (const step of steps) {
-    const last = lastOf(joined);
-    if (!step.loop) joined.push(step);
-    else if (last?.loop && loopAsText(last.loop) === loopAsText(step.loop)) joined[joined.length - 1] = joinLoop(last, step);
-    else joined.push(step);
-  }
-  return joined;
-}
-
-/** A loop and its continuation: the first places are those of the one, the last places those of the other. */
-function joinLoop(one, other) {
-  const loop = one.loop.map((step, place) => ({ ...step, last_place: other.loop[place].last_place ?? other.loop[place].place }));
-  return { loop, times: one.times + other.times };
-}
 
 function stepList(unit, steps) {
   const leftOut = steps.length - FIRST_STEPS - LAST_STEPS;
@@ -64,14 +30,13 @@ function stepOrLoop(context, step) {
 }
 
 function stepOf(context, step) {
-  const status = bitsOf(step.status);
-  const isBad = step.rule || status & TROUBLE || step.fault;
+  const isBad = isFailed(step);
   if (step.place?.equal !== undefined && step.bytes) context.search = step;
   return el("div", { class: isBad ? "step bad-step" : "step" }, [
     ...step.ccws.map((ccw, place) => ccwOf(ccw, place === 0, ccw.at === step.rule?.at)),
     step.rule ? brokenOf(step) : null,
     step.moved === undefined ? null : movedOf(step),
-    step.status === undefined ? null : endOf(step, status, isBad),
+    step.status === undefined ? null : endOf(step, isBad),
     step.place ? placeOf(context, step) : null,
   ]);
 }
@@ -92,70 +57,21 @@ function movedOf({ moved, way, address, bytes, more }) {
   return el("div", null, line, hexOfBytes(bytes, more));
 }
 
-function endOf({ status: digits, residual, sense, next, fault }, status, isBad) {
-  const names = [...unusualStatus(status)];
+function endOf(step, isBad) {
+  const { status, residual, next } = step;
+  const trouble = troubleOfStep(step);
+  return el("div", { class: isBad ? "bad" : "" }, el("span", { class: "code" }, `${status} residual ${residual}`),
+    trouble ? `, ${trouble}` : "", next ? el("span", { class: "code" }, ` → ${next}`) : "");
+}
+
+/** Whether a step is a program check, or shows more than a normal end. */
+const isFailed = ({ rule, status, fault }) => Boolean(rule || bitsOf(status) & TROUBLE || fault);
+
+/** What the status and the sense bytes of a step say, and which fault of its unit it met. */
+function troubleOfStep({ rule, status, sense, fault }) {
+  if (rule) return rule.text;
+  const names = unusualStatus(bitsOf(status));
   if (sense && sense !== "0000") names.push(`sense ${sense} ${senseNames(bitsOf(sense)).join(", ") || "nothing to tell"}`);
   if (fault) names.push(`fault ${fault} of the unit`);
-  return el("div", { class: isBad ? "bad" : "" }, el("span", { class: "code" }, `${digits} residual ${residual}`),
-    names.length ? `, ${names.join(", ")}` : "", next ? el("span", { class: "code" }, ` → ${next}`) : "");
-}
-
-// --- places
-
-/** Where a step was: of a loop the first and the last place. A search that found no record has the records of its track. */
-function placeOf({ unit, search }, step) {
-  const { place, last_place: last } = step;
-  if (place.passed !== undefined) return comparisonOf(unit, place, search);
-  return el("div", { class: "place" }, placeLink(unit, step, place), last ? [" … ", placeLink(unit, step, last)] : null);
-}
-
-function placeLink(unit, step, place) {
-  const words = placeInWords(place);
-  const id = placeId(unit, step, place);
-  return [id ? el("a", { href: `#${id}` }, `▸ ${words}`) : words,
-    id === null ? ", which the medium no longer has" : "", place.equal === undefined ? "" : `: ${place.equal ? "equal" : "not equal"}`];
-}
-
-function placeInWords({ item, page, line, cylinder, head, record, id, key }) {
-  if (item !== undefined) return `item ${many(item)} of the tape`;
-  if (page !== undefined) return `page ${many(page)}, line ${line}`;
-  return `track ${cylinder} ${head}, ${id ? `ID ${id}` : `R${record}`}${key ? `, key ${key} |${ebcdic(key)}|` : ""}`;
-}
-
-/** The id of a step's place in the drawing of its medium. Null if the medium no longer has it; empty if a line is not drawn. */
-function placeId({ unit, medium }, step, { item, page, line, cylinder, head, record, nth, id, key = "" }) {
-  if (item !== undefined) return itemsOf(medium).some((it) => it.number === item && isMovedBy(step, it)) ? `i${unit}-${item}` : null;
-  if (page !== undefined) return line <= linesOf(medium, page) ? `l${unit}-${page}-${line}` : "";
-  const now = recordsOf(medium, { cylinder, head })[nth];
-  const isSame = now?.id === (id ?? homeOf(cylinder, head) + hexOf(record, 2)) && now.key === key;
-  return isSame ? recordId(unit, { cylinder, head, nth }) : null;
-}
-
-/** Whether an item of a tape begins with the bytes that a step moved, if these show how it began. */
-const isMovedBy = ({ ccws, way, bytes = "" }, item) => way === "down from" || ccws.some(({ flags }) => flags.includes("SKIP"))
-  || !/^[0-9A-F]+$/.test(bytes) || (item.bytes ?? "").startsWith(bytes);
-
-/** What a search that found nothing looked for, beside what its track had then. */
-function comparisonOf({ unit, medium }, place, search) {
-  const { cylinder, head, passed } = place;
-  const found = place.keys ?? place.ids ?? [];
-  const more = place.keys_more ?? place.ids_more ?? 0;
-  const wanted = search?.bytes ?? "";
-  const text = (hex) => (place.keys ? ` |${ebcdic(hex)}|` : "");
-  const kind = place.keys ? "key" : "ID";
-  const records = recordsOf(medium, place);
-  const isThere = (bytes, nth) => bytes === (place.keys ? records[nth]?.key : records[nth]?.id);
-  const words = wanted ? [`Looked for ${kind} `, el("code", null, grouped(wanted)), `${text(wanted)} on `] : "Looked on ";
-  return el("div", { class: "compare" },
-    el("p", null, words, `track ${cylinder} ${head}, passed ${counted(passed, "record")}, found none. The track had:`),
-    el("table", { class: "facts code" }, found.map((bytes, nth) => (nth === 0 && !bytes ? null : el("tr", null,
-      el("td", null, isThere(bytes, nth) ? el("a", { href: `#${recordId(unit, { cylinder, head, nth })}` }, nth) : String(nth)),
-      el("td", null, digitsBeside(bytes, wanted)), el("td", { class: "dim" }, text(bytes)))))),
-    more ? el("p", { class: "dim" }, `and ${counted(more, "record")} more`) : null);
-}
-
-/** Bytes, of which those that differ from what was looked for are marked. */
-function digitsBeside(bytes, wanted) {
-  const pairs = bytes.match(/../g) ?? ["–"];
-  return pairs.map((byte, at) => (!wanted || byte === wanted.slice(2 * at, 2 * at + 2) ? byte : el("mark", null, byte)));
+  return names.join(", ");
 }
