@@ -185,24 +185,30 @@ def place_in_words(place):
 
 
 def steps_in_words(steps):
-    """What a panel has of some steps, in this order."""
+    """What a panel has of some steps, in this order: of each step a row for each CCW, the first with what the step did."""
     for step in steps:
         for it in step.get("loop", [step]):
             for place, ccw in enumerate(it["ccws"]):
-                yield f"{ccw['at']} {grouped(ccw['image'])} " + (f"{ccw['mnemonic'] or ''} {ccw['name']}" if place == 0 else "…")
+                yield ccw["at"]
+                yield f"{ccw['mnemonic'] or ''} {ccw['name']}" if place == 0 else "…"
+                yield grouped(ccw["image"]) + " ".join(ccw["flags"])
+                if place == 0:
+                    yield from what_it_did(it)
             if "rule" in it:
                 yield f"program check at {it['rule']['at']}"
                 yield it["rule"]["text"]
-            if "moved" in it:
-                yield f"{it['way']} {it['address']}"
-            if "status" in it:
-                yield f"{it['status']} residual {it['residual']}"
-            if "place" in it:
+            if "passed" in it.get("place", {}):
                 yield place_in_words(it["place"])
-            if "last_place" in it:
-                yield place_in_words(it["last_place"])
         if "loop" in step:
             yield f"× {step['times']:,}"
+
+
+def what_it_did(step):
+    if "moved" in step:
+        yield f"{step['way']} {step['address']}"
+    yield from (place_in_words(step[it]) for it in ("place", "last_place") if it in step and "passed" not in step[it])
+    if "status" in step:
+        yield f"{step['status']} residual {step['residual']}"
 
 
 def starts_in_words(events):

@@ -401,6 +401,63 @@ def notices(setup):
 
 
 def stays_text(setup):
+# Where the panel and the lanes are, the headings of the steps, and whether a table of them is wider than its place.
+DOCKED = """(() => {
+  const panel = document.querySelector('aside.panel');
+  const lanes = document.querySelector('.scroller').getBoundingClientRect();
+  const {left, right, top, bottom} = panel.getBoundingClientRect();
+  return {
+    left, right, top, bottom, lanes: lanes.right, wide: document.documentElement.scrollWidth,
+    heads: [...panel.querySelectorAll('.steps th')].map(it => it.checkVisibility() && it.textContent),
+    isCut: [...panel.querySelectorAll('.wide-table')].some(it => it.scrollWidth > it.clientWidth),
+  };
+})()"""
+
+
+def docks_its_panel(setup):
+    """A panel has the steps as a table. In a wide window it is beside the lanes, in a narrow one over the bottom of the page."""
+    with tempfile.TemporaryDirectory() as folder, browser.Browser() as it:
+        file = written(folder, page_of(setup, "report", "--html", script=read(f"{SAMPLES}/how-programs-end.script")))
+        it.open(file, "#q0-0-5", width=1280, height=900)
+        wide = it.value(DOCKED)
+        heads = "Address", "Command", "Flags", "Data", "Place", "Status"
+        require(wide["heads"][:6] == list(heads) and not wide["isCut"], f"the steps have the columns {wide['heads']}, or are cut")
+        box = wide["left"] >= wide["lanes"], wide["right"], wide["top"], wide["bottom"]
+        require(box == (True, 1280, 0, 900), f"at 1280 pixels the panel is at {wide}")
+        it.open(file, "#q0-0-5", width=400, height=900)
+        narrow = it.value(DOCKED)
+        box = narrow["left"], narrow["right"], narrow["bottom"], narrow["wide"]
+        require(box == (0, 400, 900, 400) and narrow["top"] > 300 and not narrow["isCut"], f"at 400 pixels the panel is at {narrow}")
+
+
+# Of each lane whether all of it is in the window, and the height of its first bar; and how many lanes have a label.
+LANES = """[[...document.querySelectorAll('.drawing .lane')].map(lane => {
+  const {top, bottom} = lane.querySelector('.ground').getBoundingClientRect();
+  return [top >= 0 && bottom <= innerHeight, lane.querySelector('.run').getBoundingClientRect().height];
+}), [...document.querySelectorAll('.label')].filter(it => it.textContent).length]"""
+
+
+def many_lanes():
+    """A script of 64 tasks, each of which prints a line at another one of 64 units."""
+    area = f"{IOB}{'00' * 8}0900104020000004{'00' * 8}C1C2C3C4"
+    lines = ["tasks 64", *(f"printer {unit} {unit % 8} 40 2" for unit in range(64)), *(f"open {unit} out" for unit in range(64))]
+    lines += [f"area 0 001000 {area}", *(f"excp {task} {task * 7 % 64} 1 001000 0 001040 4" for task in range(64))]
+    return "\n".join([*lines, ""])
+
+
+def shows_all_lanes(setup):
+    """The first screen has all lanes of 64 tasks and 64 units. On demand they are as high as others."""
+    with tempfile.TemporaryDirectory() as folder, browser.Browser() as it:
+        it.open(written(folder, page_of(setup, "report", "--html", script=many_lanes())), width=1280, height=900)
+        lanes, labels = it.value(LANES)
+        require(len(lanes) == 128 and all(is_seen and high >= 2 for is_seen, high in lanes), f"the first screen has the lanes {lanes}")
+        require(labels >= 32, f"only {labels} lanes have labels")
+        it.value("document.querySelector('button[aria-pressed=false]:not(.filters *)').click()")
+        lanes, labels = it.value(f"new Promise(done => setTimeout(() => done({LANES}), 100))")
+        require(labels == 128 and len(lanes) < 128 and lanes[0][1] == 16, f"tall lanes have {labels} labels, and bars as in {lanes[:3]}")
+        require(not it.said, f"on the console: {it.said[:3]}")
+
+
     """Bytes and names that look like HTML make no element. Without scripts the page has its posts."""
     with tempfile.TemporaryDirectory() as folder, browser.Browser() as it:
         for code in "cp037", "ascii":
@@ -465,3 +522,5 @@ def cases(setup):
     yield Case("in a browser, a broken address", lambda: notices(setup), ORIGIN)
     yield Case("in a browser, a tape over the bound", lambda: says_its_bound(setup), ORIGIN)
     yield Case("in a browser, hostile texts", lambda: stays_text(setup), f"{ORIGIN}, and the HTML standard")
+    yield Case("in a browser, a panel", lambda: docks_its_panel(setup), ORIGIN)
+    yield Case("in a browser, many lanes", lambda: shows_all_lanes(setup), ORIGIN)

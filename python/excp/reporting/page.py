@@ -22,8 +22,8 @@ _VIEWER = Path(__file__).resolve().parents[1] / "viewer"
 
 STYLES = "page lanes programs panel media paper".split()
 SCRIPTS = (
-    "names dom model waits layout signs legend density overview bars drawing lanes moving panel "
-    "attempts steps places programs media disk tape paper ends list units posts filter print page"
+    "names dom model waits layout compact signs legend density overview bars drawing lanes moving "
+    "panel attempts steps places programs media disk tape paper ends list units posts filter print page"
 ).split()
 
 # A part of the page that every run has.

@@ -1,18 +1,21 @@
 /** @file How a request is drawn in a lane: its wait, its attempts, its end and its label. */
 
+/** A bar that is not higher on both sides of its middle has no signs. */
+const SIGN = 4;
+
 /** The bar of a request. `free` has the first and the last pixel that its label may use. */
 function drawBar(lane, item, view, free) {
   const { request } = item;
   const y = middleOf(lane, item);
-  const half = Math.min(8, lane.rowHeight / 2 - 2);
+  const half = lane.isCompact ? Math.min(8, lane.rowHeight / 2 - 0.5) : Math.min(8, lane.rowHeight / 2 - 2);
   const left = view.x(item.from - 1);
   const right = Math.max(left + 2, view.x(item.to));
   const started = request.starts.length ? Math.max(left, view.x(request.starts[0].column - 1)) : right;
   const isWide = right - started > 22;
-  const parts = started > left + 0.5 ? [box("wait", left, started, y, 2.5)] : [];
+  const parts = started > left + 0.5 ? [box("wait", left, started, y, Math.min(2.5, half))] : [];
   parts.push(...drawAttempts(request, view, { left, right, y, half }));
-  if (ENDS[request.code] && (isWide || !request.starts.length)) parts.push(endSign(request.code, right - (isWide ? 8 : 0), y));
-  const label = half > 4 ? labelOf(lane, request, { left, started, right }, view, free) : undefined;
+  if (half > SIGN && ENDS[request.code] && (isWide || !request.starts.length)) parts.push(endSign(request.code, right - (isWide ? 8 : 0), y));
+  const label = half > SIGN ? labelOf(lane, request, { left, started, right }, view, free) : undefined;
   if (label) parts.push(plate(label.name, label, y));
   return { parts, labelEnd: label ? label.x + label.width : 0 };
 }
@@ -22,7 +25,7 @@ function drawAttempts(request, view, { left, right, y, half }) {
   const starts = request.starts.map(({ column }) => Math.max(left, view.x(column - 1)));
   const last = starts.length - 1;
   const parts = starts.map((start, place) => box(place < last ? "again" : "run", start, starts[place + 1] ?? right, y, half));
-  if (view.pixels < 9) return parts;
+  if (view.pixels < 9 || half <= SIGN) return parts;
   const turns = request.runs.map(({ column }) => `M${view.middle(column)} ${y + half - 4}v4`).join("");
   if (turns && starts.length) parts.push(svg("path", { class: "turn", d: turns }));
   if (request.halted) parts.push(svg("path", { class: "halt", d: `M${view.middle(request.halted.column)} ${y - half}v${2 * half}` }));

@@ -91,9 +91,9 @@ const table = (name, heads, rows) => el("div", { class: "wide-table" }, el("tabl
 const cell = (...content) => el("td", null, content);
 const numberCell = (value) => el("td", { class: "n" }, value ? many(value) : "·");
 
-/** Bytes in hexadecimal and in characters. */
-function hexOfBytes(hex, isMore = false) {
-  const width = hex.length > 32 ? 35 : 0;
-  const lines = hexLines(hex).map(([digits, text]) => el("div", null, digits.padEnd(width), "  ", el("i", null, text)));
+/** Bytes in hexadecimal and in characters, in lines of so many bytes. */
+function hexOfBytes(hex, isMore = false, bytes = 16) {
+  const width = hex.length > 2 * bytes ? (bytes / 4) * 9 - 1 : 0;
+  const lines = hexLines(hex, bytes).map(([digits, text]) => el("div", null, digits.padEnd(width), "  ", el("i", null, text)));
   return el("div", { class: "hex code" }, lines, isMore ? el("div", { class: "dim" }, "…") : null);
 }

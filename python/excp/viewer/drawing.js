@@ -29,7 +29,7 @@ class Drawing {
       if (labelEnd) labelEnds.set(item.row, labelEnd);
       return this.groupOf(item, `bar c${item.request.code || "none"}`, bar);
     });
-    const dooms = lane.owner === "unit" ? items.map((item) => this.drawDoom(lane, item)) : [];
+    const dooms = lane.owner === "unit" && !lane.isCompact ? items.map((item) => this.drawDoom(lane, item)) : [];
     // the sign at the end of a bar is over the next bar
     return [...parts.reverse(), ...dooms, this.drawLife(lane)];
   }
@@ -51,8 +51,10 @@ class Drawing {
     const words = markInWords(thing) + (lane.owner === "task" ? ` on unit ${thing.unit}` : by);
     const width = plateWidth(words);
     const sign = SIGNS[thing.event.what]();
-    sign.setAttribute("transform", `translate(${x} ${y})`);
-    const parts = [svg("rect", { class: "target", x: x - 9, y: y - 10, width: 18, height: 20 }), sign];
+    sign.setAttribute("transform", `translate(${x} ${y}) scale(${Math.min(1, lane.rowHeight / MARK_ROW)})`);
+    const high = Math.min(20, lane.rowHeight);
+    const parts = [svg("rect", { class: "target", x: x - 9, y: y - high / 2, width: 18, height: high }), sign];
+    if (lane.isCompact) return parts;
     if (after - x > width + 12) parts.push(plate(words, { x: x + 9, width }, y));
     else if (x - before > width + 12 && before === 0) parts.push(plate(words, { x: x - 9 - width, width }, y));
     return parts;

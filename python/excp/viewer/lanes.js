@@ -10,8 +10,9 @@ const MOST_PIXELS = 12e6;
 /** A run with more events begins at a width at which its bars can be told apart. */
 const FIT_EVENTS = 400;
 const FIRST_PIXELS = 18;
-/** Room for the label of the last request. */
+/** Room for the label of the last request, and for what is below lanes that fill the first screen. */
 const RIGHT = 12;
+const BELOW_LANES = 6;
 
 class Lanes {
   /** @param {object} state `matches(request)`, `filter`, and `select(thing)`, `moved(thing)`, `hover(thing, event)` */
@@ -20,9 +21,14 @@ class Lanes {
     this.state = state;
     this.lanes = lanesOf(model);
     this.shown = this.lanes;
+    /** The lanes that the filter leaves, none of them compact. */
+    this.tall = this.lanes;
+    this.isTall = false;
     this.isFit = model.length <= FIT_EVENTS;
     this.pixels = FIRST_PIXELS;
     this.onview = () => {};
+    this.toggle = el("button", { type: "button", "aria-pressed": "false", hidden: true, onclick: () => this.makeTall(!this.isTall) },
+      "Tall lanes");
     this.redraw = oncePerFrame(() => this.draw());
     this.axis = svg("svg", { class: "axis", height: AXIS, "aria-hidden": "true" });
     this.picture = svg("svg", { class: "drawing", role: "img", "aria-label": "Lanes of tasks and units" });
@@ -39,21 +45,42 @@ class Lanes {
   /** Lays the lanes out that the filter leaves. */
   arrange() {
     const { filter, matches } = this.state;
-    this.shown = filter.isOn() ? this.lanes.filter((lane) => lane.requests.some(matches)) : this.lanes;
+    this.tall = filter.isOn() ? this.lanes.filter((lane) => lane.requests.some(matches)) : this.lanes;
+    const room = this.roomForLanes();
+    this.isCrowded = this.tall.length > MANY_LANES && stack(this.tall) > room;
+    const isCompact = this.isCrowded && !this.isTall;
+    this.shown = isCompact ? compactLanes(this.model, this.tall, heightOfEach(this.tall, room)) : this.tall;
     this.height = stack(this.shown);
+    this.scroller.classList.toggle("compact", isCompact);
+    this.toggle.hidden = !this.isCrowded;
     this.labels.replaceChildren(...this.shown.map((lane) => this.labelOf(lane)));
     this.labelWidth = this.labels.offsetWidth;
     this.setScale();
     this.redraw();
   }
 
+  /** The pixels of the first screen that lanes may have. */
+  roomForLanes() {
+    return innerHeight - (scrollY + this.scroller.getBoundingClientRect().top) - AXIS - BELOW_LANES;
+  }
+
+  makeTall(isTall) {
+    this.isTall = isTall;
+    this.state.cursor = null;
+    this.toggle.setAttribute("aria-pressed", isTall);
+    this.arrange();
+  }
+
   labelOf(lane) {
     const { run, taskTallies, unitTallies } = this.model;
     const isTask = lane.owner === "task";
     const tally = (isTask ? taskTallies : unitTallies)[lane.number];
+    const name = el(isTask ? "b" : "a", isTask ? null : { href: `#unit${lane.number}` }, `${isTask ? "Task" : "Unit"} ${lane.number}`);
+    if (lane.isCompact) {
+      return el("div", { class: "low label", style: { height: `${lane.height}px` } }, hasLabel(lane, this.shown) ? name : null);
+    }
     const toggle = () => { lane.isOpen = !lane.isOpen; arrangeLane(this.model, lane); this.arrange(); };
-    return el("div", { class: "label", style: { height: `${lane.height}px` } },
-      el(isTask ? "b" : "a", isTask ? null : { href: `#unit${lane.number}` }, `${isTask ? "Task" : "Unit"} ${lane.number}`),
+    return el("div", { class: "label", style: { height: `${lane.height}px` } }, name,
       el("span", null, isTask ? "" : ` ${run.units[lane.number].kind}`), el("small", null, codesInWords(tally.codes)),
       lane.isCrowded ? button(lane.isOpen ? "fewer rows" : "all rows", "Rows of requests that overlap", toggle) : null);
   }

@@ -62,11 +62,11 @@ function ebcdic(hex) {
 /** Bytes in hexadecimal in groups of four. */
 const grouped = (hex) => hex.replace(/.{8}(?=.)/g, "$& ");
 
-/** Bytes in lines of sixteen: hexadecimal in groups, and characters. */
-function hexLines(hex) {
+/** Bytes in lines of so many: hexadecimal in groups, and characters. */
+function hexLines(hex, bytes) {
   const lines = [];
-  for (let at = 0; at < hex.length; at += 32) {
-    const part = hex.slice(at, at + 32);
+  for (let at = 0; at < hex.length; at += 2 * bytes) {
+    const part = hex.slice(at, at + 2 * bytes);
     lines.push([grouped(part), ebcdic(part)]);
   }
   return lines;

@@ -33,8 +33,10 @@ class Page {
       + counted(length, "event");
     const controls = filterControls(this.model, this.filter, () => this.refilter());
     byId("head").append(el("p", { class: "dim" }, lead), hasTables(this.model) ? shareOf(this.model) : "", controls);
-    byId("run").append(patterns(), this.tools(), this.overview.root, this.lanes.scroller, el("div", { id: "printed" }),
-      el("p", { class: "dim note" }, this.note()));
+    // many lanes are an overview themselves
+    const isLow = this.lanes.lanes.length > MANY_LANES;
+    byId("run").append(patterns(), this.tools(), isLow ? "" : this.overview.root, this.lanes.scroller, isLow ? this.overview.root : "",
+      el("div", { id: "printed" }), el("p", { class: "dim note" }, this.note()));
     document.body.append(this.panel, this.tip);
     this.lanes.arrange();
     this.lanes.draw();
@@ -70,7 +72,7 @@ class Page {
       el("div", { class: "zooms", role: "group", "aria-label": "Zoom" },
         button("Fit", "Show the whole run (0)", () => this.lanes.zoom(0)),
         button("−", "Narrower events (−)", () => this.lanes.zoom(1 / ZOOM)),
-        button("+", "Wider events (+)", () => this.lanes.zoom(ZOOM))),
+        button("+", "Wider events (+)", () => this.lanes.zoom(ZOOM))), this.lanes.toggle,
       legendOf(this.model, this.lanes.lanes));
   }
 
@@ -111,10 +113,11 @@ class Page {
     this.keepLanesInSight();
   }
 
-  /** Scrolls the page so that the panel leaves the lanes in sight. */
+  /** Scrolls the page so that the lanes are in sight, also over a panel at the bottom. */
   keepLanesInSight() {
-    const { top, bottom } = this.lanes.scroller.getBoundingClientRect();
-    if (bottom > innerHeight - this.panel.offsetHeight || top < 0) scrollBy({ top: top - 8 });
+    const { top, bottom, right } = this.lanes.scroller.getBoundingClientRect();
+    const panel = this.panel.getBoundingClientRect();
+    if (top < 0 || bottom > (panel.left < right ? panel.top : innerHeight)) scrollBy({ top: top - 8 });
   }
 
   step(by) {

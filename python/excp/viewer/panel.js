@@ -33,11 +33,11 @@ function requestPanel(model, request) {
   return {
     title: [chip(request.code), ` ${longName(request)} · ${kind} · ${endInWords(request)}`],
     content: [
-      el("div", null, part("Its events", lifeOf(request, kind)), request.end ? part("CSW and sense", cswOf(request)) : null),
-      el("div", null, part("IOB as posted", post ? iobOf(post) : el("p", { class: "dim" }, noPost)),
-        request.code === "42" ? part("Extents of its DCB", extentsOf(model, request)) : null,
-        post?.shown ? part(`${counted(post.shown.length / 2, "byte")} shown`, hexOfBytes(post.shown)) : null),
+      part("Its events", lifeOf(request, kind)), request.end ? part("CSW and sense", cswOf(request)) : null,
       el("div", { class: "program" }, stepsOfAttempts(model, request)),
+      part("IOB as posted", post ? iobOf(post) : el("p", { class: "dim" }, noPost)),
+      request.code === "42" ? part("Extents of its DCB", extentsOf(model, request)) : null,
+      post?.shown ? part(`${counted(post.shown.length / 2, "byte")} shown`, hexOfBytes(post.shown)) : null,
     ],
   };
 }

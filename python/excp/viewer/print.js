@@ -33,7 +33,7 @@ function printedLanes(model, state, lanes) {
 /** Builds all that a page on paper has. Returns a call that takes it away again. */
 function preparePrint({ model, state, lanes }) {
   const isShort = model.requests.length <= MOST_PRINTED;
-  byId("printed").replaceChildren(...printedLanes(model, state, lanes.shown));
+  byId("printed").replaceChildren(...printedLanes(model, state, lanes.tall));
   for (const unit of document.querySelectorAll("section.unit")) unit.build();
   const folds = isShort ? [...document.querySelectorAll("details:not([open])")] : [];
   for (const it of folds) { it.build(); it.open = true; }

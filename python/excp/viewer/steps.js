@@ -1,8 +1,12 @@
-/** @file The steps of a request: the commands of its attempts. */
+/** @file The steps of a request as a table: a row for each CCW of the commands of its attempts. */
 
 /** The most steps of an attempt that are shown. */
 const FIRST_STEPS = 120;
 const LAST_STEPS = 40;
+
+const STEP_HEADS = ["Address", "Command", "Flags", "Data", "Place", "Status"];
+/** The bytes of a line of data. */
+const STEP_BYTES = 8;
 
 /** The steps of the attempts of a request; those with equal steps in a row are one. */
 function stepsOfAttempts(model, request) {
@@ -10,58 +14,66 @@ function stepsOfAttempts(model, request) {
   return attemptGroups(model, request).map(({ numbers, runs, steps }) => {
     const title = request.starts.length > 1 ? `Attempt${numbers.length > 1 ? "s" : ""} ${rangeOf(numbers)}` : "Steps";
     const isLeftOut = runs.some(({ event }) => event.left_out);
-    return part(title, el("div", { class: "steps" }, stepList(model.run.units[request.unit], steps)),
+    return part(title, stepsTable(model.run.units[request.unit], steps),
       isLeftOut ? el("p", { class: "dim" }, "Further steps were left out.") : null);
   });
 }
 
 const rangeOf = (numbers) => (numbers.length > 1 ? `${numbers[0]} to ${lastOf(numbers)}, all alike but for their faults` : numbers[0]);
 
-function stepList(unit, steps) {
+function stepsTable(unit, steps) {
   const leftOut = steps.length - FIRST_STEPS - LAST_STEPS;
   const shown = leftOut > 0 ? [...steps.slice(0, FIRST_STEPS), null, ...steps.slice(-LAST_STEPS)] : steps;
   const context = { unit, search: null };
-  return shown.map((step) => (step ? stepOrLoop(context, step) : el("p", { class: "dim" }, `… ${counted(leftOut, "step")} more …`)));
+  return el("div", { class: "wide-table" }, el("table", { class: "steps" },
+    el("thead", null, el("tr", null, STEP_HEADS.map((head) => el("th", null, head)))),
+    shown.map((step) => (step ? stepOrLoop(context, step) : el("tbody", null, wholeRow("dim", `… ${counted(leftOut, "step")} more …`))))));
 }
+
+const wholeRow = (name, ...content) => el("tr", { class: name }, el("td", { colspan: STEP_HEADS.length }, content));
 
 function stepOrLoop(context, step) {
-  if (!step.loop) return stepOf(context, step);
-  return el("div", { class: "loop" }, step.loop.map((it) => stepOf(context, it)), el("p", { class: "times" }, `× ${many(step.times)}`));
+  if (!step.loop) return el("tbody", { class: isFailed(step) ? "step failed-step" : "step" }, stepRows(context, step));
+  return el("tbody", { class: "loop" }, step.loop.map((it) => stepRows(context, it)), wholeRow("times", `× ${many(step.times)}`));
 }
 
-function stepOf(context, step) {
-  const isBad = isFailed(step);
+/** The rows of a step: one for each CCW, the first with what the step did; then the rule that a CCW broke, or what a search passed. */
+function stepRows(context, step) {
   if (step.place?.equal !== undefined && step.bytes) context.search = step;
-  return el("div", { class: isBad ? "step bad-step" : "step" }, [
-    ...step.ccws.map((ccw, place) => ccwOf(ccw, place === 0, ccw.at === step.rule?.at)),
-    step.rule ? brokenOf(step) : null,
-    step.moved === undefined ? null : movedOf(step),
-    step.status === undefined ? null : endOf(step, isBad),
-    step.place ? placeOf(context, step) : null,
-  ]);
+  const { ccws, rule, place } = step;
+  const rows = Math.max(1, ccws.length);
+  const did = [dataOf(step), place && place.passed === undefined ? placeOf(context, step) : "", statusOf(step)]
+    .map((content) => el("td", { rowspan: rows > 1 && rows }, content));
+  const isRule = ({ at }) => at === rule?.at;
+  return [
+    ...(ccws.length || !rule ? ccws.map((ccw, nth) => ccwRow(ccw, isRule(ccw), nth === 0 ? did : [])) : []),
+    rule ? wholeRow("bad rule", brokenRule(step)) : null,
+    place?.passed === undefined ? null : wholeRow("", comparisonOf(context.unit, place, context.search)),
+  ];
 }
 
-const ccwOf = ({ at, image, name, mnemonic, flags }, isFirst, isBroken) =>
-  el("div", { class: isBroken ? "ccw code bad" : "ccw code" }, el("span", { class: "dim" }, at), ` ${grouped(image)} `,
-    isFirst ? [el("b", null, mnemonic ?? ""), ` ${name}`] : "…", flags.length ? ` ${flags.join(" ")}` : "");
+const ccwRow = ({ at, image, name, mnemonic, flags }, isBroken, did) => el("tr", { class: isBroken && "bad", "data-at": at },
+  el("td", { class: "code" }, at),
+  el("td", null, did.length ? [el("b", { class: "code" }, mnemonic ?? ""), ` ${name}`] : "…", el("div", { class: "image code dim" }, grouped(image))),
+  el("td", { class: "code" }, flags.join(" ")), did);
 
-function brokenOf({ ccws, rule }) {
+function brokenRule({ ccws, rule }) {
   const isShown = ccws.some(({ at }) => at === rule.at);
-  const image = rule.image && !isShown ? `  ${grouped(rule.image)}` : "";
-  return el("div", { class: "bad rule" }, `program check at ${rule.at}${image}`, el("br"), rule.text);
+  return [el("span", { "data-at": rule.at }, `program check at ${rule.at}`), rule.image && !isShown ? `  ${grouped(rule.image)}` : "", ": ", rule.text];
 }
 
-function movedOf({ moved, way, address, bytes, more }) {
+function dataOf({ moved, way, address, bytes, more }) {
+  if (moved === undefined) return "";
   const line = `${counted(moved, "byte")} ${way} ${address}`;
-  if (!/^[0-9A-F]+$/.test(bytes)) return el("div", null, `${line}: ${bytes}`);
-  return el("div", null, line, hexOfBytes(bytes, more));
+  return /^[0-9A-F]+$/.test(bytes) ? [line, hexOfBytes(bytes, more, STEP_BYTES)] : `${line}: ${bytes}`;
 }
 
-function endOf(step, isBad) {
+function statusOf(step) {
   const { status, residual, next } = step;
+  if (status === undefined) return "";
   const trouble = troubleOfStep(step);
-  return el("div", { class: isBad ? "bad" : "" }, el("span", { class: "code" }, `${status} residual ${residual}`),
-    trouble ? `, ${trouble}` : "", next ? el("span", { class: "code" }, ` → ${next}`) : "");
+  return [el("span", { class: "code" }, `${status} residual ${residual}`), next ? el("span", { class: "code dim" }, ` → ${next}`) : "",
+    trouble ? el("div", { class: isFailed(step) && "bad" }, trouble) : ""];
 }
 
 /** Whether a step is a program check, or shows more than a normal end. */
