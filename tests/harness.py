@@ -9,6 +9,7 @@ import difflib
 import importlib
 import multiprocessing
 import os
+import pathlib
 import re
 import shlex
 import signal
@@ -139,9 +140,9 @@ def package_main(tools):
 
     for word in WORDS.values():
         word.load()
-    for name in "dialog", "whole_script":
+    for name in "dialog", "page_form", "whole_script":
         importlib.import_module(f"excp.command.{name}")
-    return lambda words: main(words, lambda _: tools)
+    return lambda words: main(words, lambda _: pathlib.Path(tools))
 
 
 def run_package(command, tools, words, script="", file="", cwd=None, stdin=None, stdout=None, timeout=SECONDS):

@@ -9,6 +9,7 @@ dark: what the page shows is what tests/pages.py takes from the JSON alone. Byte
 import json
 import os
 import re
+import shutil
 import struct
 import subprocess
 import sys
@@ -95,6 +96,7 @@ def posts_in(text):
 def is_right(setup, script, texts):
     """The page of a script is safe and whole, and has one of some stored posts."""
     page = pages.check(page_of(setup, "report", "--html", script=script))
+    foot(page, "threads")
     actual = page.texts["post-lines"]
     expect_text("other posts than the JSON", None, pages.posts_of(page.run()), actual)
     if texts and actual not in map(posts_in, texts):
@@ -105,8 +107,31 @@ def has_its_json(setup, script):
     """The page of a scenario is safe and whole, and has the JSON of the same scenario."""
     page = pages.check(page_of(setup, "step", "--html", script=script))
     expected = as_json(setup.run("step", "--json", script=script))
+    foot(page, "its events")
     require(page.run() == expected, "the page has another JSON")
     expect_text("other posts than the JSON", None, pages.posts_of(expected), page.texts["post-lines"])
+
+
+def foot(page, how, state="not proved"):
+    """The foot of a page names the script, the version of the program, whether it is proved, and by what the run went."""
+    version = re.search('VERSION: &str = "(.*)"', read(f"{TOP}/crates/run_options/src/lib.rt"))[1]
+    expected = f"{page.texts['h1']}: excp {version}, {state}; run by {how}. One file, no network."
+    expect_text("another foot", None, expected, page.texts["foot"])
+
+
+def has_its_foot(setup):
+    """The foot has the seed; and it says `proved` of a program whose record of a proof is beside it, as long as it is that file."""
+    script = read(f"{SAMPLES}/read.script")
+    foot(pages.check(page_of(setup, "report", "--html", "--seed", "7", script=script)), "seed 7")
+    with tempfile.TemporaryDirectory() as folder:
+        file = shutil.copy2(setup.tools, folder)
+        for change, state in (0, "proved"), (1, "not proved"):
+            found = os.stat(file)
+            with open(f"{file}.proof", "w", encoding="utf-8") as record:
+                record.write(f"version 1.1\nfile {found.st_size + change} {found.st_mtime_ns}\n")
+            ran = run([sys.executable, f"{TOP}/tests/package.py", file, "report", "--html"], script)
+            require((ran.status, ran.err) == (0, ""), "the report fails", ran)
+            foot(pages.check(ran.out), "threads", state)
 
 
 def viewer_is_whole():
@@ -376,31 +401,6 @@ def keeps_blanks_and_hides_hints(setup):
         require(not left and not it.said, f"hints stay after {left}; on the console: {it.said[:3]}")
 
 
-def leads_to_what_was_there(setup):
-    """No link leads to a record or block that came later to the place of another one. Each dot is in its wait."""
-    with tempfile.TemporaryDirectory() as folder, browser.Browser() as it:
-        text = page_of(setup, "report", "--html", script=GONE)
-        shows_its_facts(it, written(folder, text), pages.Page(text).run())
-        require(it.value(OUTSIDE) == 0, "a dot is in no wait")
-
-
-def notices(setup):
-    """The reader of facts notices a broken address of a program check."""
-    text = page_of(setup, "report", "--html", script=read(f"{SAMPLES}/how-programs-end.script"))
-    run_of_page = pages.Page(text).run()
-    rule = next(step["rule"] for steps in run_of_page["steps"] for step in steps if "rule" in step)
-    with tempfile.TemporaryDirectory() as folder, browser.Browser() as it:
-        file = written(folder, text)
-        shows_its_facts(it, file, run_of_page)
-        rule["at"] = f"{int(rule['at'], 16) ^ 8:06X}"
-        try:
-            shows_its_facts(it, file, run_of_page)
-        except Failed as error:
-            return require("program check at" in str(error), f"another failure: {error}")
-    raise Failed("a broken address of a program check is not noticed")
-
-
-def stays_text(setup):
 # Where the panel and the lanes are, the headings of the steps, and whether a table of them is wider than its place.
 DOCKED = """(() => {
   const panel = document.querySelector('aside.panel');
@@ -458,6 +458,31 @@ def shows_all_lanes(setup):
         require(not it.said, f"on the console: {it.said[:3]}")
 
 
+def leads_to_what_was_there(setup):
+    """No link leads to a record or block that came later to the place of another one. Each dot is in its wait."""
+    with tempfile.TemporaryDirectory() as folder, browser.Browser() as it:
+        text = page_of(setup, "report", "--html", script=GONE)
+        shows_its_facts(it, written(folder, text), pages.Page(text).run())
+        require(it.value(OUTSIDE) == 0, "a dot is in no wait")
+
+
+def notices(setup):
+    """The reader of facts notices a broken address of a program check."""
+    text = page_of(setup, "report", "--html", script=read(f"{SAMPLES}/how-programs-end.script"))
+    run_of_page = pages.Page(text).run()
+    rule = next(step["rule"] for steps in run_of_page["steps"] for step in steps if "rule" in step)
+    with tempfile.TemporaryDirectory() as folder, browser.Browser() as it:
+        file = written(folder, text)
+        shows_its_facts(it, file, run_of_page)
+        rule["at"] = f"{int(rule['at'], 16) ^ 8:06X}"
+        try:
+            shows_its_facts(it, file, run_of_page)
+        except Failed as error:
+            return require("program check at" in str(error), f"another failure: {error}")
+    raise Failed("a broken address of a program check is not noticed")
+
+
+def stays_text(setup):
     """Bytes and names that look like HTML make no element. Without scripts the page has its posts."""
     with tempfile.TemporaryDirectory() as folder, browser.Browser() as it:
         for code in "cp037", "ascii":
@@ -510,6 +535,7 @@ def cases(setup):
         yield Case(f"page of {os.path.relpath(file, TOP)}", lambda s=read(file): has_its_json(setup, s), ORIGIN)
     for code in "cp037", "ascii":
         yield Case(f"hostile bytes in {code}", lambda c=code: keeps_its_shape(setup, c), f"{ORIGIN}, and the HTML standard")
+    yield Case("the foot", lambda: has_its_foot(setup), ORIGIN)
     yield Case("a hostile name", lambda: escapes_the_title(setup), ORIGIN)
     for kind in SIZES:
         yield Case(f"20,000 requests, {kind}", lambda k=kind: fits(setup, k), ORIGIN)
@@ -519,8 +545,8 @@ def cases(setup):
         yield Case(f"in a browser, from {part[0][0]}", lambda p=part: opened(setup, p), f"{ORIGIN}, and Chromium")
     yield Case("in a browser, records that are gone", lambda: leads_to_what_was_there(setup), ORIGIN)
     yield Case("in a browser, blanks and hints", lambda: keeps_blanks_and_hides_hints(setup), ORIGIN)
+    yield Case("in a browser, a panel", lambda: docks_its_panel(setup), ORIGIN)
+    yield Case("in a browser, many lanes", lambda: shows_all_lanes(setup), ORIGIN)
     yield Case("in a browser, a broken address", lambda: notices(setup), ORIGIN)
     yield Case("in a browser, a tape over the bound", lambda: says_its_bound(setup), ORIGIN)
     yield Case("in a browser, hostile texts", lambda: stays_text(setup), f"{ORIGIN}, and the HTML standard")
-    yield Case("in a browser, a panel", lambda: docks_its_panel(setup), ORIGIN)
-    yield Case("in a browser, many lanes", lambda: shows_all_lanes(setup), ORIGIN)

@@ -12,7 +12,6 @@ from ..checking import check_scenario
 from ..checking.loaded import Images
 from ..findings import Finding
 from ..script.limits import MOST_SCRIPT_BYTES
-from ..symbols.source_map import SourceMap
 from .handing import handed
 from .streams import FAILED, Ended
 from .units import UnitKind, units_of
@@ -77,7 +76,3 @@ class Dialog:
     def findings(self, images: Images) -> Sequence[Finding]:
         """The fault that ends the lines so far."""
         return ending_faults(check_scenario(bytes(self._copy), images))
-
-    def names(self) -> Optional[SourceMap]:
-        """The names of a job in symbols: it takes plain lines only."""
-        return None

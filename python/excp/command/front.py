@@ -3,6 +3,7 @@
 from __future__ import annotations
 
 import sys
+from functools import lru_cache
 from pathlib import Path
 from typing import List, Sequence, Tuple
 
@@ -115,7 +116,8 @@ def _run(here: Home, mode: Mode, words: List[str]) -> int:
 def _word(here: Home, mode: Mode, words: List[str]) -> int:
     if len(words) == 2 and words[1] in _HELP:
         return _print_page(words[0])
-    return main(words, lambda program: choose(here, program, mode))
+    # a word may ask for a program again, and what is said of its build is said once
+    return main(words, lru_cache(maxsize=None)(lambda program: choose(here, program, mode)))
 
 
 def _script(here: Home, mode: Mode, words: List[str], may_be_word: bool) -> int:

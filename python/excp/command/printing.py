@@ -11,7 +11,7 @@ from typing import IO, Callable, Iterable, Iterator, Optional
 
 from ..reporting.kept import NotKept
 from ..reporting.record import Record
-from .forms import Form, Names
+from .forms import Form
 from .streams import (
     FAILED, OUT_OF_MEMORY, OUTPUT, Ended, NotWritten, error_of_program, is_open, write_output,
 )
@@ -25,16 +25,16 @@ class _CutShort(Exception):
 
 
 class Printing:
-    """Prints a form of a record, with the names of a job. `is_awaited` says that the program is to
-    reach its end although nothing is printed any more.
+    """Prints a form of a record. `is_awaited` says that the program is to reach its end although
+    nothing is printed any more.
 
     `failure` is why not all is printed: ReaderGone, Ended or MemoryError.
     """
 
-    def __init__(self, form: Form, names: Names, is_awaited: bool) -> None:
+    def __init__(self, form: Form, is_awaited: bool) -> None:
         self.is_over = False
         self.failure: Optional[Exception] = None
-        self._form, self._names, self._is_awaited = form, names, is_awaited
+        self._form, self._is_awaited = form, is_awaited
         self._has_output = is_open(OUTPUT)
         self._status: queue.SimpleQueue[int] = queue.SimpleQueue()
 
@@ -73,7 +73,7 @@ class Printing:
             raise _CutShort
 
     def _print(self, record: Record) -> None:
-        parts = (piece.encode() for piece in self._form.pieces(record, self._names))
+        parts = (piece.encode() for piece in self._form.pieces(record))
         # without a record nothing is printed, whatever the output is
         for part in parts:
             if not self._has_output:

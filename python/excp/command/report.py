@@ -4,7 +4,7 @@ runs nothing, and prints the script with each area in symbols."""
 from __future__ import annotations
 
 import argparse
-from typing import Optional
+from typing import TYPE_CHECKING, Optional
 
 from ..checking import check_script, has_rejected_line
 from ..checking.loaded import with_sizes
@@ -19,6 +19,10 @@ from .streams import (
     ERRORS, OUTPUT, REJECTED, name_of, print_findings, takes_colour, write_output,
 )
 from .unit_files import add_load, add_save, load_images
+
+if TYPE_CHECKING:
+    from ..symbols import Assembled
+    from .forms import Form
 
 _FORMS = {
     "steps": "the commands of each history too, loops folded",
@@ -74,15 +78,27 @@ def _look(given: argparse.Namespace) -> Look:
 
 
 def _report(given: argparse.Namespace, name: Optional[str]) -> int:
-    from .forms import form_of
     from .tool_run import carry_out
-    from .tools import Order, title_of
+    from .tools import Order
     from .whole_script import read_job
 
     words = words_of(seed=given.seed, channels=given.channels, handlers=given.handlers)
-    form = form_of(name, title_of(given.script), given.most_steps, _look(given))
-    order = Order.of(given, "report", words, form, saves_unread=True)
-    return carry_out(order, read_job(given.script, order.loads))
+    order = Order.of(given, "report", words, saves_unread=True)
+    job = read_job(given.script, order.loads)
+    return carry_out(order.printed_as(_form(given, name, job.script)), job)
+
+
+def _form(given: argparse.Namespace, name: Optional[str], script: Assembled) -> Form:
+    from .forms import json_form, text_form
+    from .tools import title_of
+
+    if name == "html":
+        from .page_form import page_form
+
+        return page_form(given, "threads" if given.seed is None else f"seed {given.seed}")
+    if name == "json":
+        return json_form(title_of(given.script), given.most_steps)
+    return text_form(name, given.most_steps, _look(given), script)
 
 
 def _list(given: argparse.Namespace) -> int:

@@ -6,9 +6,9 @@ import argparse
 import os
 import stat
 
-from ..reporting.look import Look
-from .forms import form_of
+from .forms import json_form
 from .options import MOST, check_exclusions, number, words_of
+from .page_form import page_form
 from .script_file import add_script
 from .streams import INPUT, STANDARD_INPUT, Ended, opened_script
 from .tool_run import carry_out
@@ -34,11 +34,11 @@ def run(given: argparse.Namespace) -> int:
     check_exclusions(given, _EXCLUSIONS)
     if given.most_steps is not None and not given.json:
         given.usage_error("--most-steps N needs --json")
-    form = None
-    if given.json or given.html:
-        name = "json" if given.json else "html"
-        form = form_of(name, title_of(given.script), given.most_steps, Look())
-    order = Order.of(given, "step", words_of(trace=given.trace, state=given.state), form)
+    order = Order.of(given, "step", words_of(trace=given.trace, state=given.state))
+    if given.json:
+        order = order.printed_as(json_form(title_of(given.script), given.most_steps))
+    elif given.html:
+        order = order.printed_as(page_form(given, "its events"))
     if given.script is None:
         return _step_input(order)
     with opened_script(given.script) as script:

@@ -28,11 +28,9 @@ from .streams import (
     ERRORS, REJECTED, Ended, ReaderGone, error_of_program, name_of, of_file, print_findings,
     say_removed,
 )
-from .tools import Order, Source
+from .tools import PROGRAM, Order, Source
 from .unit_files import load_images
 from .units import check_fit
-
-PROGRAM = "excp_tools"
 
 
 class Status(IntEnum):
@@ -135,8 +133,7 @@ class _Run:
         form, printing = self._order.form, None
         if form is not None:
             has_new_files = next(self._outputs(), None) is not None
-            is_awaited = self._order.saves_unread and has_new_files
-            printing = Printing(form, self._source.names, is_awaited)
+            printing = Printing(form, is_awaited=self._order.saves_unread and has_new_files)
         with self._source.opened() as given:
             begun = self._source.begun
             status = ended(

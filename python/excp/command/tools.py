@@ -4,19 +4,20 @@ script."""
 from __future__ import annotations
 
 import argparse
-from dataclasses import dataclass
+from dataclasses import dataclass, replace
 from pathlib import Path
 from typing import BinaryIO, Callable, ContextManager, Mapping, Optional, Protocol, Sequence, Union
 
 from ..checking.loaded import Images
 from ..files.targets import Targets, UnitFile
 from ..findings import Finding
-from ..symbols.source_map import SourceMap
 from .forms import Form
 from .handing import name_in_texts
 from .options import unit_files
 from .streams import name_of
 from .units import UnitKind
+
+PROGRAM = "excp_tools"
 
 
 class Source(Protocol):
@@ -40,9 +41,6 @@ class Source(Protocol):
 
     def findings(self, images: Images) -> Sequence[Finding]:
         """What is printed of it if the program has refused it."""
-
-    def names(self) -> Optional[SourceMap]:
-        """The names of a job in symbols that is read whole."""
 
 
 @dataclass(frozen=True)
@@ -71,14 +69,13 @@ class Order:
         given: argparse.Namespace,
         word: str,
         words: Sequence[str],
-        form: Optional[Form] = None,
         saves_unread: bool = False,
     ) -> Order:
         """The order of a word with these options. Raises Ended."""
         title = f"title={title_of(given.script)}"
         return cls(
-            words=[word, title, *words, *(form.words if form is not None else ())],
-            form=form,
+            words=[word, title, *words],
+            form=None,
             saves_unread=saves_unread,
             program_of=given.program_of,
             loads=unit_files(given, "load"),
@@ -88,6 +85,10 @@ class Order:
             schedule=getattr(given, "scenario", None),
             folder=getattr(given, "scenarios", None),
         )
+
+    def printed_as(self, form: Form) -> Order:
+        """The same, with a form for the record."""
+        return replace(self, words=[*self.words, *form.words], form=form)
 
     def targets(self) -> Targets:
         """The rules for the files that are written. Raises Unwritten."""

@@ -9,7 +9,6 @@ from ..checking import check_scenario, check_script
 from ..checking.loaded import Images
 from ..findings import FaultName, Finding
 from ..symbols import Assembled
-from ..symbols.source_map import SourceMap, source_map
 from .run import in_memory
 from .script_file import read_plain, worth_printing
 from .streams import ERRORS, name_of
@@ -47,10 +46,6 @@ class WholeScript:
     def findings(self, images: Images) -> Sequence[Finding]:
         """What is printed of it if a program has rejected it."""
         return worth_printing(self.check(self.script, images), self.script.script)
-
-    def names(self) -> Optional[SourceMap]:
-        """The names of a job in symbols."""
-        return source_map(self.script)
 
 
 def read_job(file: Optional[str], loads: Mapping[int, str]) -> WholeScript:

@@ -5,14 +5,32 @@ from __future__ import annotations
 import re
 import subprocess
 from pathlib import Path
-from typing import Dict, Iterator
+from typing import Dict, Iterator, NamedTuple
 
-from .home import PROGRAMS, Home
-from .proof import UNPROVED, record_of, why_not
+from .home import PROGRAMS, Home, home
+from .proof import PROOF, UNPROVED, record_of, why_not
 from .telling import note
 
 _OF_RECORD = ("commit", "kit", "sha256")
+_UNKNOWN = "unknown"
 _VERSION = re.compile(r'^pub const VERSION: &str = "(.*)";$', re.MULTILINE)
+
+
+class Build(NamedTuple):
+    """A build of a program: its version, and whether it is proved."""
+
+    version: str
+    is_proved: bool
+
+
+def build_of(file: Path) -> Build:
+    """What the build of a program in a file is, as far as sizes and times tell."""
+    here = Home(home().top, file.parent)
+    is_proved = why_not(here, file.name) is None
+    record = record_of(here, file.name, PROOF if is_proved else UNPROVED)
+    if "version" not in record and here.top is not None:
+        return Build(_version_of_sources(here.top), is_proved)
+    return Build(record.get("version", _UNKNOWN), is_proved)
 
 
 def versions(home: Home) -> Iterator[str]:
@@ -38,13 +56,17 @@ def _lines(program: str, record: Dict[str, str], state: str) -> Iterator[str]:
 
 def unproved_record(top: Path) -> Dict[str, str]:
     """The record of a program that is built of the sources of a repository, and not proved."""
-    found = _VERSION.search((top / "crates/run_options/src/lib.rt").read_text(encoding="utf-8"))
     commit = _printed("git", "-C", str(top), "rev-parse", "--short=12", "HEAD")
     return {
-        "version": found[1] if found else "unknown",
-        "commit": commit or "unknown",
+        "version": _version_of_sources(top),
+        "commit": commit or _UNKNOWN,
         "kit": _printed("rt", "version") or "none",
     }
+
+
+def _version_of_sources(top: Path) -> str:
+    found = _VERSION.search((top / "crates/run_options/src/lib.rt").read_text(encoding="utf-8"))
+    return found[1] if found else _UNKNOWN
 
 
 def _printed(*words: str) -> str:

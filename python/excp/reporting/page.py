@@ -33,8 +33,11 @@ _PART = re.compile(r"\{([a-z-]+)\}")
 _COMMENT = re.compile(r"^[ \t]*/\*.*?\*/[ \t]*\n", re.M | re.S)
 
 
-def page_report(record: Record, title: str, most: int) -> Iterator[str]:
-    """The page of a run in pieces, with so many commands of each unit. Raises NotKept."""
+def page_report(
+    record: Record, title: str, most: int, foot: Callable[[], str]
+) -> Iterator[str]:
+    """The page of a run in pieces, with so many commands of each unit, and with this at its foot.
+    Raises NotKept."""
     if record.what is None:
         return
     run = RunJson(record, title, most)
@@ -45,6 +48,7 @@ def page_report(record: Record, title: str, most: int) -> Iterator[str]:
         "front": lambda: map(_without_tags, run.front()),
         "posts": run.posts,
         "rest": lambda: map(_without_tags, run.back()),
+        "foot": lambda: [_escaped(foot())],
     }
     for number, piece in enumerate(_template()):
         if number % 2:
