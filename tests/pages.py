@@ -65,15 +65,15 @@ def check(text):
     page = Page(text)
     require(text.startswith("<!DOCTYPE html>\n") and not page.open, "the page is not whole")
     scripts = [named for tag, named in page.elements if tag == "script"]
-    data = [{"type": "application/json", "id": name} for name in ("front", "rest")]
-    require(scripts == [data[0], {}, data[1]], f"the script elements are {scripts}")
+    data = [{"type": "application/json", "id": name} for name in ("front", "rest", "job")]
+    require(scripts == [data[0], {}, *data[1:]], f"the script elements are {scripts}")
     policies = [named["content"] for tag, named in page.elements if tag == "meta" and "http-equiv" in named]
     require(policies == [POLICY.format(digest(page.texts["style"]), digest(page.texts["script"]))], f"the policy is {policies}")
     for tag, named in page.elements:
         require(tag in ELEMENTS, f"there is an element <{tag}>")
         require(set(named) <= {"lang", "charset", "name", "content", "http-equiv", "id", "aria-label", "type", "class", "tabindex"},
                 f"<{tag}> has {named}")
-    require("<" not in page.texts["front"] + page.texts["rest"], "the JSON has a <")
+    require("<" not in page.texts["front"] + page.texts["rest"] + page.texts["job"], "the JSON has a <")
     for words in page.texts["style"], page.texts["script"]:
         require(not re.search(r"https?:(?!//www\.w3\.org/2000/svg\b)|@import|\binnerHTML\b|\beval\b|url\((?!#)", words), "the page names a place")
     return page
@@ -229,7 +229,7 @@ def starts_in_words(events):
 def check_panel(run, request, panel):
     """Fails if the panel of a request lacks its code, an entry, its CSW, its IOB, a step, or a link to what ended it."""
     name, unit, events, end, post, cause = request
-    title, text, links, places = panel
+    title, text, links, places, _ = panel
     require(title.startswith(end["code"] if end else "–"), f"{name} has the title {title}")
     arrival = events[0]
     due = [f"{arrival['number']}arrived for DCB {arrival['dcb']}", f"program at {arrival['start']}",
@@ -248,7 +248,7 @@ def check_panel(run, request, panel):
     right = {target for step in all_steps for found in places_in(step) for target in place_on(unit, *found)}
     for target in places:
         require(target in right, f"the panel of {name} leads to {target}, which no step of it has")
-    at = 0
+    at = max(0, text.find("AddressCommandFlags"))
     for steps in shown_steps(run, events):
         for words in steps_in_words(steps):
             found = text.find(words, at)

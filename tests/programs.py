@@ -1,5 +1,7 @@
-"""The lanes of commands of a page (docs/REPORT.md), against what an independent reader takes from the JSON alone."""
+"""The lanes of commands of a page (docs/REPORT.md), and the panes of programs in its panels, against what an independent reader takes
+from the JSON alone."""
 
+import collections
 import json
 import re
 
@@ -103,3 +105,33 @@ def has_failed(step, at):
     if "rule" in step:
         return step["rule"]["at"] == at
     return bool(int(step["status"], 16) & 0x03FF or step["fault"])
+
+
+# The most rows of a pane.
+MOST_CCWS = 200
+
+
+def check_pane(run, request, rows):
+    """Fails if a pane has other counts of hits than the steps of its request."""
+    name, _, events, *_ = request
+    wanted = hits_of(run, events)
+    found = {at: int(hits.replace(",", "")) for at, hits in rows if hits != "·"}
+    require(len(rows) == MOST_CCWS or found == wanted, f"the pane of {name} has the hits {found}, and not {dict(wanted)}")
+    require([at for at, _ in rows] == sorted(at for at, _ in rows), f"the pane of {name} is not in order")
+
+
+def hits_of(run, events):
+    """How often each CCW of a request was hit, transfers and the CCW that broke a rule too, by addresses."""
+    hits, goes_on = collections.Counter(), None
+    for event in events:
+        if event["what"] == "started":
+            goes_on = None
+        for step in run["steps"][event["steps"]] if event["what"] == "ran" else ():
+            for it in step.get("times", 1) * step.get("loop", [step]):
+                chain = [ccw["at"] for ccw in it["ccws"]]
+                rule = [it["rule"]["at"]] if "rule" in it and it["rule"]["at"] not in chain else []
+                nexts = [goes_on, *(f"{int(at, 16) + 8:06X}" for at in chain[:-1])]
+                hits.update(due for due, at in zip(nexts, chain or rule) if due not in (None, at))
+                hits.update(chain + rule)
+                goes_on = it.get("next")
+    return hits

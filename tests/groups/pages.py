@@ -251,7 +251,8 @@ PANELS = """%s.map(id => {
   const panel = document.querySelector('aside.panel');
   return [panel.querySelector('h3').textContent, panel.querySelector('.content').textContent.replace(/\\u00a0/g, ' '),
     [...panel.querySelectorAll('section p a')].map(a => a.hash.slice(1)),
-    [...panel.querySelectorAll('.place a')].map(a => a.hash.slice(1))];
+    [...panel.querySelectorAll('.place a')].map(a => a.hash.slice(1)),
+    [...panel.querySelectorAll('.pane tbody tr')].map(row => [row.dataset.at, row.cells[0].textContent])];
 })"""
 
 # The same of records, blocks and lines: what is lit, and what it says.
@@ -284,7 +285,8 @@ def opened(setup, sheets):
         for name, words, script in sheets:
             text = page_of(setup, *words, script=script)
             try:
-                shows_its_facts(it, written(folder, text), pages.Page(text).run())
+                run_of_page = pages.Page(text).run()
+                shows_its_facts(it, written(folder, text), run_of_page)
             except Failed as error:
                 raise Failed(f"{name}: {error}", error.ran, error.expected, error.actual) from error
 
@@ -306,11 +308,12 @@ def shows_its_facts(it, file, run_of_page):
     requests = list(pages.requests_of(run_of_page))
     for request, panel in zip(requests, it.value(PANELS % json.dumps([request[0] for request in requests])), strict=True):
         pages.check_panel(run_of_page, request, panel)
+        programs.check_pane(run_of_page, request, panel[4])
     causes = {}
     for name, *_, cause in requests:
         if cause:
             causes.setdefault(cause, []).append(name)
-    for (cause, ended), (_, _, links, _) in zip(causes.items(), it.value(PANELS % json.dumps(list(causes))), strict=True):
+    for (cause, ended), (_, _, links, *_) in zip(causes.items(), it.value(PANELS % json.dumps(list(causes))), strict=True):
         require(set(ended[: pages.NAMED]) <= set(links), f"the panel of {cause} does not lead to {ended}")
     places = pages.places_of(run_of_page)
     for (place, words), text in zip(places.items(), it.value(PLACES % json.dumps(list(places))), strict=True):
@@ -458,6 +461,54 @@ def shows_all_lanes(setup):
         require(not it.said, f"on the console: {it.said[:3]}")
 
 
+# A job in symbols, whose program has a statement that looks like HTML. It ends there, and so misses what its flags chain.
+SOURCE = """tasks 1
+disk 0 0 1 1 60
+rec 0 0 0 1 - C1C2C3C4
+open 0 in all
+area 0 001000
+IOB: IOB ecb=ECB start=CP dcb=1 seek=0,0,1
+ECB: ECB
+CP: SIDE ID,L'ID,CC
+ TIC CP
+ RD BUFFER,4,CC
+MORE: DC C'</script'
+ID: CCHHR 0,0,1
+BUFFER: DS 4
+endarea
+excp 0 0 1 IOB 0 BUFFER 4
+"""
+SOURCE_ROWS = [["2", "001030", "CP", "SIDE ID,L'ID,CC", "8"], ["1", "001038", "", "TIC CP", "9"],
+               ["1", "001040", "", "RD BUFFER,4,CC", "10"], ["1", "001048", "MORE", "DC C'</script'", "11"],
+               ["·", "001050", "ID", "CCHHR 0,0,1", "12"]]
+
+# The cells of the pane; the first label and operand in the steps; and what is lit after the pointer is at a step, and at a row of the pane.
+PANE = """(() => {
+  const at = (place) => place.dispatchEvent(new PointerEvent('pointerover', {bubbles: true}));
+  const lit = (names) => [...document.querySelectorAll(names)].filter(it => it.matches('.pointed')).map(it => it.dataset.at);
+  const rows = [...document.querySelectorAll('.pane tbody tr')];
+  const step = document.querySelector('.steps tr[data-at]');
+  at(step.cells[1]);
+  const byStep = lit('.pane tr');
+  at(rows[2]);
+  return [rows.map(row => [...row.cells].map(it => it.textContent)), step.cells[0].textContent, step.cells[3].textContent, byStep, lit('.steps tr')];
+})()"""
+
+
+def shows_its_source(setup):
+    """The panel of a request has its program as the job has it; a step lights its statement, and a statement its steps. A statement
+    that looks like HTML ends no element."""
+    with tempfile.TemporaryDirectory() as folder, browser.Browser() as it:
+        text = page_of(setup, "report", "--html", script=SOURCE)
+        pages.check(text)
+        it.open(written(folder, text), "#q0-0-1", height=900)
+        rows, label, data, by_step, by_row = it.value(PANE)
+        require(rows == SOURCE_ROWS, f"the pane has {rows}")
+        require(label == "001030CP" and data.startswith("5 bytes from 001050 ID"), f"a step has {label} and {data}")
+        require((by_step, by_row) == (["001030"], ["001040"]), f"a pointer lights {by_step} and {by_row}")
+        require(not it.said, f"on the console: {it.said[:3]}")
+
+
 def leads_to_what_was_there(setup):
     """No link leads to a record or block that came later to the place of another one. Each dot is in its wait."""
     with tempfile.TemporaryDirectory() as folder, browser.Browser() as it:
@@ -546,6 +597,7 @@ def cases(setup):
     yield Case("in a browser, records that are gone", lambda: leads_to_what_was_there(setup), ORIGIN)
     yield Case("in a browser, blanks and hints", lambda: keeps_blanks_and_hides_hints(setup), ORIGIN)
     yield Case("in a browser, a panel", lambda: docks_its_panel(setup), ORIGIN)
+    yield Case("in a browser, a program of a job", lambda: shows_its_source(setup), ORIGIN)
     yield Case("in a browser, many lanes", lambda: shows_all_lanes(setup), ORIGIN)
     yield Case("in a browser, a broken address", lambda: notices(setup), ORIGIN)
     yield Case("in a browser, a tape over the bound", lambda: says_its_bound(setup), ORIGIN)

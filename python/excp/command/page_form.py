@@ -1,25 +1,29 @@
-"""The form of a report that is a page: what it says of the program and of the run at its foot."""
+"""The form of a report that is a page: of the run, its script, and the program that ran it."""
 
 from __future__ import annotations
 
 import argparse
 from pathlib import Path
-from typing import Callable
+from typing import Callable, Optional
 
 from ..programs.version import build_of
-from ..reporting.page import page_report
+from ..reporting.job_json import job_json
+from ..reporting.page import About, page_report
+from ..symbols import Assembled
 from .forms import Form
-from .options import MOST, words_of
+from .options import MOST, unit_files, words_of
 from .tools import PROGRAM, title_of
 
 
-def page_form(given: argparse.Namespace, how: str) -> Form:
-    """The page of a run with these options. `how` says what the run went by."""
-    title = title_of(given.script)
-    return Form(
-        words_of(form="steps"),
-        lambda record: page_report(record, title, MOST, lambda: _foot(given.program_of, how)),
+def page_form(given: argparse.Namespace, how: str, script: Optional[Assembled] = None) -> Form:
+    """The page of a run with these options. `how` says what the run went by; a script that comes
+    line by line is not known."""
+    about = About(
+        title_of(given.script),
+        lambda: _foot(given.program_of, how),
+        lambda: job_json(script, unit_files(given, "load").keys()),
     )
+    return Form(words_of(form="steps"), lambda record: page_report(record, about, MOST))
 
 
 def _foot(program_of: Callable[[str], Path], how: str) -> str:

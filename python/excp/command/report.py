@@ -95,7 +95,7 @@ def _form(given: argparse.Namespace, name: Optional[str], script: Assembled) -> 
     if name == "html":
         from .page_form import page_form
 
-        return page_form(given, "threads" if given.seed is None else f"seed {given.seed}")
+        return page_form(given, "threads" if given.seed is None else f"seed {given.seed}", script)
     if name == "json":
         return json_form(title_of(given.script), given.most_steps)
     return text_form(name, given.most_steps, _look(given), script)

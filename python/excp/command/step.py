@@ -5,7 +5,9 @@ from __future__ import annotations
 import argparse
 import os
 import stat
+from typing import Optional
 
+from ..symbols import Assembled
 from .forms import json_form
 from .options import MOST, check_exclusions, number, words_of
 from .page_form import page_form
@@ -37,16 +39,22 @@ def run(given: argparse.Namespace) -> int:
     order = Order.of(given, "step", words_of(trace=given.trace, state=given.state))
     if given.json:
         order = order.printed_as(json_form(title_of(given.script), given.most_steps))
-    elif given.html:
-        order = order.printed_as(page_form(given, "its events"))
     if given.script is None:
-        return _step_input(order)
+        return _step_input(_with_page(order, given))
     with opened_script(given.script) as script:
         if not stat.S_ISREG(os.fstat(script.fileno()).st_mode):
-            return _step_lines(order, script.fileno())
+            return _step_lines(_with_page(order, given), script.fileno())
     from .whole_script import read_scenario
 
-    return carry_out(order, read_scenario(given.script, order.loads))
+    scenario = read_scenario(given.script, order.loads)
+    return carry_out(_with_page(order, given, scenario.script), scenario)
+
+
+def _with_page(
+    order: Order, given: argparse.Namespace, script: Optional[Assembled] = None
+) -> Order:
+    """An order, with a page as its form if that is asked for."""
+    return order.printed_as(page_form(given, "its events", script)) if given.html else order
 
 
 def _step_input(order: Order) -> int:

@@ -12,6 +12,7 @@ import hashlib
 import html
 import re
 import unicodedata
+from dataclasses import dataclass
 from pathlib import Path
 from typing import Callable, Iterable, Iterator, List, Mapping
 
@@ -22,8 +23,9 @@ _VIEWER = Path(__file__).resolve().parents[1] / "viewer"
 
 STYLES = "page lanes programs panel media paper".split()
 SCRIPTS = (
-    "names dom model waits layout compact signs legend density overview bars drawing lanes moving "
-    "panel attempts steps places programs media disk tape paper ends list units posts filter print page"
+    "names dom model job waits layout compact signs legend density overview bars drawing lanes "
+    "moving panel attempts steps places programs pane media disk tape paper ends list "
+    "units posts filter print page"
 ).split()
 
 # A part of the page that every run has.
@@ -33,22 +35,30 @@ _PART = re.compile(r"\{([a-z-]+)\}")
 _COMMENT = re.compile(r"^[ \t]*/\*.*?\*/[ \t]*\n", re.M | re.S)
 
 
-def page_report(
-    record: Record, title: str, most: int, foot: Callable[[], str]
-) -> Iterator[str]:
-    """The page of a run in pieces, with so many commands of each unit, and with this at its foot.
-    Raises NotKept."""
+@dataclass(frozen=True)
+class About:
+    """What a page says beside the record of its run: its title, what is at its foot, and the JSON
+    of the script in pieces. The last two are asked for after the run."""
+
+    title: str
+    foot: Callable[[], str]
+    job: Callable[[], Iterable[str]]
+
+
+def page_report(record: Record, about: About, most: int) -> Iterator[str]:
+    """The page of a run in pieces, with so many commands of each unit. Raises NotKept."""
     if record.what is None:
         return
-    run = RunJson(record, title, most)
+    run = RunJson(record, about.title, most)
     # the posts and the steps come after the script, so that a browser draws the lanes before it
     # reads them
     parts: Mapping[str, Callable[[], Iterable[str]]] = {
-        "title": lambda: [_escaped(title)],
+        "title": lambda: [_escaped(about.title)],
         "front": lambda: map(_without_tags, run.front()),
         "posts": run.posts,
         "rest": lambda: map(_without_tags, run.back()),
-        "foot": lambda: [_escaped(foot())],
+        "job": lambda: map(_without_tags, about.job()),
+        "foot": lambda: [_escaped(about.foot())],
     }
     for number, piece in enumerate(_template()):
         if number % 2:

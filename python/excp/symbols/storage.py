@@ -5,7 +5,7 @@ Each request names an IOB, which names its ECB and its channel program.
 
 from __future__ import annotations
 
-from typing import NamedTuple, Optional
+from typing import Dict, Mapping, NamedTuple, Optional
 
 from ..device_commands import DISK, Flag, Op
 from ..script.ccw import CCW_BYTES, PlacedCcw
@@ -63,15 +63,17 @@ class Storage:
 
     # What requests say.
 
-    def add_request(self, iob: int, device: str) -> None:
+    def add_request(self, iob: int, device: str) -> Mapping[int, bool]:
         """Notes the parts of a request on a device of this kind: its IOB, its ECB, and its channel
-        program."""
+        program. Returns the addresses of the CCWs that are new in it, each with whether it goes on
+        with a command's data."""
         image = self.bytes_at(iob, IOB.size)
-        if image is not None and self._claim(iob, IOB):
-            ecb, start = number_in(image[5:8]), number_in(image[17:20])
-            self._named |= {ecb, start}
-            self._claim(ecb, ECB)
-            self._add_program(start, device)
+        if image is None or not self._claim(iob, IOB):
+            return {}
+        ecb, start = number_in(image[5:8]), number_in(image[17:20])
+        self._named |= {ecb, start}
+        self._claim(ecb, ECB)
+        return self._add_program(start, device)
 
     def _claim(self, address: int, part: Part) -> bool:
         """Notes that a part begins at an address, if all its bytes are in the area and nothing is
@@ -84,8 +86,9 @@ class Storage:
         self._parts[start:end] = [part] + [None] * (part.size - 1)
         return True
 
-    def _add_program(self, start: int, device: str) -> None:
+    def _add_program(self, start: int, device: str) -> Mapping[int, bool]:
         """Notes each CCW to which a program may come. A search that finds its record skips one."""
+        found: Dict[int, bool] = {}
         # the address of a CCW and, if it goes on with a command's data, whether that is a search
         steps: list[tuple[int, Optional[bool]]] = [(start, None)]
         while steps:
@@ -94,6 +97,7 @@ class Storage:
             if image is None or not self._claim(at, Part("CCW", CCW_BYTES, 8, device)):
                 continue
             ccw = PlacedCcw.of(at, image)
+            found[at] = searches is not None
             self._named.add(ccw.address)
             if ccw.is_transfer:
                 steps.append((ccw.address, searches))
@@ -107,6 +111,7 @@ class Storage:
                 steps.append((at + CCW_BYTES, None))
                 if searches:
                     steps.append((at + 2 * CCW_BYTES, None))
+        return found
 
     def _add_data(self, ccw: PlacedCcw) -> None:
         if ccw.has(Flag.IDA):

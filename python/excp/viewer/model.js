@@ -38,10 +38,11 @@ const keyOf = (task, unit, number) => (task * 0x10000 + unit) * 0x200000 + numbe
  * The index of a run.
  * @param {object} run the JSON up to its units
  * @param {function(): {steps: object[][], posts: object[]}} readRest reads the rest, which comes after this script
+ * @param {function(): ?Job} readJob reads what the script says
  */
-function indexOf(run, readRest) {
+function indexOf(run, readRest, readJob) {
   const model = {
-    run, readRest, rest: null, requests: [], marks: [], names: new Map(), strips: [],
+    run, readRest, readJob, rest: null, requests: [], marks: [], names: new Map(), strips: [],
     /** Moments by unit and entry: `moments[unit].get(entry)`. */
     moments: run.units.map(() => new Map()),
   };

@@ -6,7 +6,7 @@ const MOVES = ["scroll", "wheel", "keydown", "pointerdown", "focusout", "resize"
 
 class Page {
   constructor(run) {
-    this.model = indexOf(run, () => read("rest"));
+    this.model = indexOf(run, () => read("rest"), () => read("job"));
     this.filter = new Filter();
     this.state = {
       filter: this.filter,
@@ -163,6 +163,7 @@ class Page {
     for (const name of MOVES) addEventListener(name, () => this.hint(null), { capture: true, passive: true });
     document.documentElement.addEventListener("pointerleave", () => this.hint(null));
     document.addEventListener("pointerover", (event) => {
+      lightAddress(event.target);
       const words = event.target.closest?.("[data-tip]")?.getAttribute("data-tip");
       if (words) this.hint(words.split("\n"), event.clientX, event.clientY);
       else if (!event.target.closest?.(".drawing")) this.hint(null);
@@ -185,7 +186,7 @@ class Page {
   }
 }
 
-/** The JSON is in two parts: what the first picture needs is before this script, steps and posts are after it. */
+/** The JSON is in three parts: what the first picture needs is before this script; steps and posts, and the job, are after it. */
 const read = (id) => JSON.parse(byId(id).textContent);
 
 function whenLoaded(action) {

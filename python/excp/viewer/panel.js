@@ -29,12 +29,13 @@ const part = (title, ...children) => el("section", null, el("h4", null, title), 
 function requestPanel(model, request) {
   const { kind } = model.run.units[request.unit];
   const post = postOf(model, request);
+  const attempts = attemptGroups(model, request);
   const noPost = request.end ? "Its task has not collected the post." : "It was not posted.";
   return {
     title: [chip(request.code), ` ${longName(request)} · ${kind} · ${endInWords(request)}`],
     content: [
       part("Its events", lifeOf(request, kind)), request.end ? part("CSW and sense", cswOf(request)) : null,
-      el("div", { class: "program" }, stepsOfAttempts(model, request)),
+      el("div", { class: "program" }, paneOf(model, request, attempts), stepsOfAttempts(model, request, attempts)),
       part("IOB as posted", post ? iobOf(post) : el("p", { class: "dim" }, noPost)),
       request.code === "42" ? part("Extents of its DCB", extentsOf(model, request)) : null,
       post?.shown ? part(`${counted(post.shown.length / 2, "byte")} shown`, hexOfBytes(post.shown)) : null,

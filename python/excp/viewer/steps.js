@@ -9,22 +9,22 @@ const STEP_HEADS = ["Address", "Command", "Flags", "Data", "Place", "Status"];
 const STEP_BYTES = 8;
 
 /** The steps of the attempts of a request; those with equal steps in a row are one. */
-function stepsOfAttempts(model, request) {
+function stepsOfAttempts(model, request, attempts) {
   if (!request.runs.length) return [];
-  return attemptGroups(model, request).map(({ numbers, runs, steps }) => {
+  return attempts.map(({ numbers, runs, steps }) => {
     const title = request.starts.length > 1 ? `Attempt${numbers.length > 1 ? "s" : ""} ${rangeOf(numbers)}` : "Steps";
     const isLeftOut = runs.some(({ event }) => event.left_out);
-    return part(title, stepsTable(model.run.units[request.unit], steps),
+    return part(title, stepsTable({ unit: model.run.units[request.unit], ccws: programOf(model, request), search: null }, steps),
       isLeftOut ? el("p", { class: "dim" }, "Further steps were left out.") : null);
   });
 }
 
 const rangeOf = (numbers) => (numbers.length > 1 ? `${numbers[0]} to ${lastOf(numbers)}, all alike but for their faults` : numbers[0]);
 
-function stepsTable(unit, steps) {
+/** @param {object} context the unit, the CCWs of the program that have names, and the last step that searched */
+function stepsTable(context, steps) {
   const leftOut = steps.length - FIRST_STEPS - LAST_STEPS;
   const shown = leftOut > 0 ? [...steps.slice(0, FIRST_STEPS), null, ...steps.slice(-LAST_STEPS)] : steps;
-  const context = { unit, search: null };
   return el("div", { class: "wide-table" }, el("table", { class: "steps" },
     el("thead", null, el("tr", null, STEP_HEADS.map((head) => el("th", null, head)))),
     shown.map((step) => (step ? stepOrLoop(context, step) : el("tbody", null, wholeRow("dim", `… ${counted(leftOut, "step")} more …`))))));
@@ -42,18 +42,18 @@ function stepRows(context, step) {
   if (step.place?.equal !== undefined && step.bytes) context.search = step;
   const { ccws, rule, place } = step;
   const rows = Math.max(1, ccws.length);
-  const did = [dataOf(step), place && place.passed === undefined ? placeOf(context, step) : "", statusOf(step)]
+  const did = [dataOf(context, step), place && place.passed === undefined ? placeOf(context, step) : "", statusOf(step)]
     .map((content) => el("td", { rowspan: rows > 1 && rows }, content));
   const isRule = ({ at }) => at === rule?.at;
   return [
-    ...(ccws.length || !rule ? ccws.map((ccw, nth) => ccwRow(ccw, isRule(ccw), nth === 0 ? did : [])) : []),
+    ...ccws.map((ccw, nth) => ccwRow(context, ccw, isRule(ccw), nth === 0 ? did : [])),
     rule ? wholeRow("bad rule", brokenRule(step)) : null,
     place?.passed === undefined ? null : wholeRow("", comparisonOf(context.unit, place, context.search)),
   ];
 }
 
-const ccwRow = ({ at, image, name, mnemonic, flags }, isBroken, did) => el("tr", { class: isBroken && "bad", "data-at": at },
-  el("td", { class: "code" }, at),
+const ccwRow = (context, { at, image, name, mnemonic, flags }, isBroken, did) => el("tr", { class: isBroken && "bad", "data-at": at },
+  el("td", { class: "code" }, at, labelAt(context, at)),
   el("td", null, did.length ? [el("b", { class: "code" }, mnemonic ?? ""), ` ${name}`] : "…", el("div", { class: "image code dim" }, grouped(image))),
   el("td", { class: "code" }, flags.join(" ")), did);
 
@@ -62,9 +62,16 @@ function brokenRule({ ccws, rule }) {
   return [el("span", { "data-at": rule.at }, `program check at ${rule.at}`), rule.image && !isShown ? `  ${grouped(rule.image)}` : "", ": ", rule.text];
 }
 
-function dataOf({ moved, way, address, bytes, more }) {
+/** The label of a CCW in a job in symbols. */
+function labelAt({ ccws }, address) {
+  const label = ccws.find(({ at }) => at === address)?.label;
+  return label ? el("div", { class: "dim" }, label) : null;
+}
+
+function dataOf({ ccws }, { moved, way, address, bytes, more }) {
   if (moved === undefined) return "";
-  const line = `${counted(moved, "byte")} ${way} ${address}`;
+  const operand = ccws.find(({ image }) => image.slice(2, 8) === address)?.operand;
+  const line = `${counted(moved, "byte")} ${way} ${address}${operand ? ` ${operand}` : ""}`;
   return /^[0-9A-F]+$/.test(bytes) ? [line, hexOfBytes(bytes, more, STEP_BYTES)] : `${line}: ${bytes}`;
 }
 
