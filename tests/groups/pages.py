@@ -16,6 +16,7 @@ import sys
 import tempfile
 
 import browser
+import changes
 import pages
 import programs
 from groups.costs import STARTER
@@ -287,6 +288,8 @@ def opened(setup, sheets):
             try:
                 run_of_page = pages.Page(text).run()
                 shows_its_facts(it, written(folder, text), run_of_page)
+                if "endarea" not in script:
+                    changes.check_changes(script, run_of_page, it.value(changes.CHANGES))
             except Failed as error:
                 raise Failed(f"{name}: {error}", error.ran, error.expected, error.actual) from error
 

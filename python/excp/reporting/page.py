@@ -24,7 +24,7 @@ _VIEWER = Path(__file__).resolve().parents[1] / "viewer"
 STYLES = "page lanes programs panel media paper".split()
 SCRIPTS = (
     "names dom model job waits layout compact signs legend density overview bars drawing lanes "
-    "moving panel attempts steps places programs pane media disk tape paper ends list "
+    "moving panel attempts steps places programs pane media changes disk tape paper ends list "
     "units posts filter print page"
 ).split()
 

@@ -74,7 +74,7 @@ function diskOf(unit) {
 
 const nameOfRecord = ({ cylinder, head, record, id }) => `${cylinder} ${head} R${record}${id ? ` ID ${id}` : ""}`;
 
-function drawTrack({ unit, medium }, track, size) {
+function drawTrack({ unit, medium, isBefore }, track, size) {
   const { cylinder, head, used } = track;
   const percent = (bytes) => `${(100 * bytes) / size}%`;
   const records = recordsOf(medium, track);
@@ -85,7 +85,8 @@ function drawTrack({ unit, medium }, track, size) {
       record.key ? `key of ${bytesInWords(record.key)}` : "no key", `data of ${bytesInWords(record.data)}`].join("\n");
     const style = { left: percent(at), width: percent(length) };
     at += length;
-    return el("div", { class: "record", id: recordId(unit, { cylinder, head, nth }), "data-tip": tip, style },
+    const id = recordId(unit, { cylinder, head, nth });
+    return el("div", { class: medium.changed?.has(id) ? "record changed" : "record", id: !isBefore && id, "data-tip": tip, style },
       areaOf("count", COUNT_AREA, `R${record.record}`), areaOf("key", record.key.length / 2, beginOf(record.key)),
       areaOf("data", record.data.length / 2, record.isMounted ? "" : beginOf(record.data)));
   });

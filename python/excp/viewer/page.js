@@ -51,7 +51,7 @@ class Page {
     if (this.programs.lanes.length) byId("programs").append(el("h2", null, "The programs, command by command"), this.programs.root);
     byId("tables").append(...tablesOf(model));
     byId("requests").append(el("h2", null, "Requests"), this.list.root);
-    byId("media").append(el("h2", null, "Units, and their media at the end"), ...model.run.units.map((unit) => unitSection(model, unit)));
+    byId("media").append(el("h2", null, "Units and their media"), ...model.run.units.map((unit) => unitSection(model, unit)));
     this.list.filter();
     linkPosts(model);
     this.listen();

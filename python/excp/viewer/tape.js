@@ -66,14 +66,16 @@ function headingOf(medium, strips, at) {
   return el("p", { class: "dim" }, `File ${file}: ${counted(blocks.length, "block")}, ${counted(size, "byte")}`);
 }
 
-function stripOf({ unit, medium }, items, percent) {
+function stripOf({ unit, medium, isBefore }, items, percent) {
   const { place } = medium;
   const strip = el("div", { class: "strip-of-tape", style: { width: `${percent}%` } });
   items.forEach((item, at) => {
     if (item.number === place + 1) strip.append(headOfTape(at > 0 && sumOf(items.slice(0, at)) * 2 > sumOf(items)));
     const tip = `item ${item.number}: ${item.bytes === null ? "tape mark" : `block of ${bytesInWords(item.bytes)}`}`;
     const style = { flex: `${itemSize(item)} ${itemSize(item)} 0` };
-    strip.append(el("div", { class: item.bytes === null ? "tape-mark" : "block", id: `i${unit}-${item.number}`, "data-tip": tip, style },
+    const id = `i${unit}-${item.number}`;
+    const name = `${item.bytes === null ? "tape-mark" : "block"}${medium.changed?.has(id) ? " changed" : ""}`;
+    strip.append(el("div", { class: name, id: !isBefore && id, "data-tip": tip, style },
       beginOf(item.bytes ?? "")));
   });
   const isAtEnd = lastOf(items) === lastOf(itemsOf(medium)) && (lastOf(items)?.number ?? 0) === place;

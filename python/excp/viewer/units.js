@@ -10,10 +10,21 @@ function unitSection(model, unit) {
   const section = el("section", { class: "unit", id: `unit${id}`, style: { minHeight: "120px" } },
     el("h3", null, `Unit ${id}, ${kind} `, el("small", null, `ISC ${isc}, ${counted(tally.requests, "request")}${codes}`)));
   return whenSeen(section, () => {
+    const before = mediumBefore(model, unit);
+    const changes = before ? changesOf({ ...unit, medium: before }, unit) : [];
+    unit.medium.changed = new Set(changes.map((change) => change.id));
     const { words, parts, show } = mediumOf(unit);
     section.show = show;
-    section.append(...[el("p", null, words), ...parts, events.length ? historyOf(model, unit) : null].filter(Boolean));
+    section.append(...[...(changes.length ? drawBefore({ ...unit, medium: before, isBefore: true }) : []),
+      el("p", null, words, before && !changes.length ? " The run left it as it was." : ""), ...parts,
+      changes.length ? changesTable(changes) : null, events.length ? historyOf(model, unit) : null].filter(Boolean));
   });
+}
+
+/** The medium of a unit before a run that changed it, and the heading of what comes after it. */
+function drawBefore(unit) {
+  const { words, parts } = mediumOf(unit);
+  return [el("h4", null, "Before the run"), el("p", null, words), ...parts, el("h4", null, "After the run")];
 }
 
 /** The events of a unit. Those of the set-up have no number. */
