@@ -135,6 +135,19 @@ def has_its_foot(setup):
             foot(pages.check(ran.out), "threads", state)
 
 
+def has_its_script(setup):
+    """A scenario of a file has its programs and its media in the page; one whose lines come one by one has neither."""
+    file = f"{SAMPLES}/scenarios/a-related-error.scenario"
+    job = json.loads(pages.check(page_of(setup, "step", "--html", file, script="")).texts["job"])
+    ccws = [(ccw["at"], ccw["mnemonic"]) for ccw in job["programs"][0]]
+    require(ccws == [("001030", "SIDE"), ("001038", "TIC"), ("001040", "RD")], f"the first program is {ccws}")
+    issued = sum(line.startswith("excp ") for line in read(file).split("\n"))
+    require([len(numbers) for numbers in job["requests"]] == [issued], f"the requests have the programs {job['requests']}")
+    require(job["content"] and not job["loaded"], f"the media have {job['content']}")
+    job = pages.check(page_of(setup, "step", "--html", script=read(file))).texts["job"]
+    require(job == "null", f"lines one by one have the job {job}")
+
+
 def viewer_is_whole():
     """The page has each file of the viewer. No text of a script has several lines, which are stripped, or could end the element."""
     from excp.reporting import page
@@ -512,6 +525,23 @@ def shows_its_source(setup):
         require(not it.said, f"on the console: {it.said[:3]}")
 
 
+# The lanes of commands that the filter leaves, after its button of a code.
+FILTERED = """(() => {
+  [...document.querySelectorAll('.filters button')].find(it => it.textContent.startsWith('41')).click();
+  return [...document.querySelectorAll('.program-lane')].filter(it => it.checkVisibility()).map(it => it.dataset.request);
+})()"""
+
+
+def filters_its_programs(setup):
+    """The filter leaves lanes of commands as it leaves bars."""
+    text = page_of(setup, "report", "--html", script=read(f"{SAMPLES}/how-programs-end.script"))
+    wanted = [f"q{it['task']}-{it['unit']}-{it['request']}" for it in pages.Page(text).run()["posts"] if it["code"] == "41"]
+    with tempfile.TemporaryDirectory() as folder, browser.Browser() as it:
+        it.open(written(folder, text))
+        found = it.value(FILTERED)
+        require(sorted(found) == sorted(wanted), f"the filter leaves {found}, and not {wanted}")
+
+
 def leads_to_what_was_there(setup):
     """No link leads to a record or block that came later to the place of another one. Each dot is in its wait."""
     with tempfile.TemporaryDirectory() as folder, browser.Browser() as it:
@@ -589,6 +619,7 @@ def cases(setup):
         yield Case(f"page of {os.path.relpath(file, TOP)}", lambda s=read(file): has_its_json(setup, s), ORIGIN)
     for code in "cp037", "ascii":
         yield Case(f"hostile bytes in {code}", lambda c=code: keeps_its_shape(setup, c), f"{ORIGIN}, and the HTML standard")
+    yield Case("the script of a page", lambda: has_its_script(setup), ORIGIN)
     yield Case("the foot", lambda: has_its_foot(setup), ORIGIN)
     yield Case("a hostile name", lambda: escapes_the_title(setup), ORIGIN)
     for kind in SIZES:
@@ -599,6 +630,7 @@ def cases(setup):
         yield Case(f"in a browser, from {part[0][0]}", lambda p=part: opened(setup, p), f"{ORIGIN}, and Chromium")
     yield Case("in a browser, records that are gone", lambda: leads_to_what_was_there(setup), ORIGIN)
     yield Case("in a browser, blanks and hints", lambda: keeps_blanks_and_hides_hints(setup), ORIGIN)
+    yield Case("in a browser, the filter of programs", lambda: filters_its_programs(setup), ORIGIN)
     yield Case("in a browser, a panel", lambda: docks_its_panel(setup), ORIGIN)
     yield Case("in a browser, a program of a job", lambda: shows_its_source(setup), ORIGIN)
     yield Case("in a browser, many lanes", lambda: shows_all_lanes(setup), ORIGIN)

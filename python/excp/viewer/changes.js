@@ -44,6 +44,14 @@ function changesOf(before, after) {
     .map(([id, { old, now }]) => ({ id, name: (now ?? old).name, before: old?.areas, after: now?.areas }));
 }
 
+/** Gives two media one scale: the bytes of the longest track or strip of both. */
+function giveOneScale(kind, one, other) {
+  const sizesOf = (medium) => (kind === "tape" ? stripsOf(itemsOf(medium)).map(sumOf)
+    : [...tracksOf(medium).values()].map((track) => usedOf(medium, track)));
+  one.scale = [...sizesOf(one), ...sizesOf(other)].reduce((most, size) => Math.max(most, size), 1);
+  other.scale = one.scale;
+}
+
 /** The bytes of all changes, before and after. Those that differ are marked. */
 function changesTable(changes) {
   const parts = el("div", { class: "changes" });

@@ -43,7 +43,7 @@ function diskOf(unit) {
   const { cylinders, heads, bytes, records } = medium;
   const tracks = [...tracksOf(medium).values()].map((track) => ({ ...track, used: usedOf(medium, track) }));
   const total = cylinders * heads;
-  const longest = tracks.reduce((most, { used }) => Math.max(most, used), 1);
+  const longest = tracks.reduce((most, { used }) => Math.max(most, used), medium.scale ?? 1);
   const size = longest * 4 > bytes ? bytes : Math.ceil((longest * 5) / 256) * 64;
   const parts = el("div", { class: "disk" });
   const rest = medium.whole === false ? "untouched, or with record 0 alone" : "with record 0 alone";

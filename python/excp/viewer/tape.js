@@ -36,7 +36,7 @@ function tapeOf(unit) {
   const strips = stripsOf(items);
   const total = medium.count ?? items.length;
   const marks = items.filter((item) => item.bytes === null).length;
-  const longest = strips.reduce((most, strip) => Math.max(most, sumOf(strip)), 1);
+  const longest = strips.reduce((most, strip) => Math.max(most, sumOf(strip)), medium.scale ?? 1);
   const parts = el("div", { class: "tape" });
   const portions = inPortions(parts, strips.length, STRIPS, "strips of the tape", (at) =>
     [headingOf(medium, strips, at), stripOf(unit, strips[at], (100 * sumOf(strips[at])) / longest)]);

@@ -13,6 +13,7 @@ function unitSection(model, unit) {
     const before = mediumBefore(model, unit);
     const changes = before ? changesOf({ ...unit, medium: before }, unit) : [];
     unit.medium.changed = new Set(changes.map((change) => change.id));
+    if (changes.length) giveOneScale(kind, before, unit.medium);
     const { words, parts, show } = mediumOf(unit);
     section.show = show;
     section.append(...[...(changes.length ? drawBefore({ ...unit, medium: before, isBefore: true }) : []),
