@@ -1,5 +1,5 @@
-"""The forms of a report: what each needs of a record, and what makes it. That of a page has a module
-of its own."""
+"""The forms of a report: what each needs of a record, and what makes it. That of a page has a
+module of its own."""
 
 from __future__ import annotations
 
