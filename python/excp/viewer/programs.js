@@ -29,11 +29,17 @@ function programLane(model, request) {
     [request.starts.length > 1 ? attemptSign(numbers) : null, ...cellsOf(steps)].filter(Boolean));
   const leftOut = parts.length - FIRST_CELLS - LAST_CELLS;
   if (leftOut > 0) parts.splice(FIRST_CELLS, leftOut, el("span", { class: "dim" }, `… ${many(leftOut)} more …`));
-  const manner = request.end && request.code !== "7F" ? mannerOf(model, request) : request.end ? "" : "not posted";
+  const manner = howItEnded(model, request);
   return el("div", { class: "program-lane", "data-request": idOf(request) },
     el("div", { class: "name" }, chip(request.code), " ", linkTo(request)),
     el("div", { class: "cells" }, parts.map((it) => (it.nodeType ? it : partOf(request, it))),
       manner ? el("span", { class: `manner t${request.code}` }, manner) : null));
+}
+
+/** What the cells of a request do not show of its end. */
+function howItEnded(model, request) {
+  if (!request.end) return "not posted";
+  return request.code === "7F" ? "" : mannerOf(model, request);
 }
 
 const attemptSign = (numbers) =>
