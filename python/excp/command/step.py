@@ -10,7 +10,6 @@ from typing import Optional
 from ..symbols import Assembled
 from .forms import json_form
 from .options import MOST, check_exclusions, number, words_of
-from .page_form import page_form
 from .script_file import add_script
 from .streams import INPUT, STANDARD_INPUT, Ended, opened_script
 from .tool_run import carry_out
@@ -54,7 +53,12 @@ def _with_page(
     order: Order, given: argparse.Namespace, script: Optional[Assembled] = None
 ) -> Order:
     """An order, with a page as its form if that is asked for."""
-    return order.printed_as(page_form(given, "its events", script)) if given.html else order
+    if not given.html:
+        return order
+    # no other form needs to wait for it
+    from .page_form import page_form
+
+    return order.printed_as(page_form(given, "its events", script))
 
 
 def _step_input(order: Order) -> int:
