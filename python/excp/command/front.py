@@ -13,7 +13,7 @@ from ..programs.home import Home, home
 from ..programs.telling import note, tell
 from .help import page_of
 from .main import end_of, main
-from .streams import USAGE, Ended, write_output
+from .streams import USAGE, Ended, of_file, write_output
 from .words import WORDS
 
 # The options that ask for a page of help.
@@ -76,8 +76,18 @@ def _install(here: Home, words: List[str]) -> int:
     try:
         install(here, Path(words[1]), takes_unproved)
     except OSError as error:
-        raise Ended(f"{error.filename}: {error.strerror}") from None
+        raise of_file(*_not_installed(words[1], error)) from None
     return 0
+
+
+def _not_installed(prefix: str, error: OSError) -> Tuple[str, str]:
+    """The file that could not be installed, and the sentence for it."""
+    from ..files.refusals import WHY_UNWRITTEN
+
+    name = str(error.filename2 or error.filename or prefix)
+    if isinstance(error, (FileExistsError, IsADirectoryError)):
+        return name, "a file or a directory is in the way"
+    return name, WHY_UNWRITTEN.get(error.errno or 0, "the file cannot be written")
 
 
 def _version(here: Home, words: List[str]) -> int:
