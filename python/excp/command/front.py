@@ -135,11 +135,14 @@ def _script(here: Home, mode: Mode, words: List[str], may_be_word: bool) -> int:
     from .run import Run, run_script
 
     is_last = _is_option(words[0])
-    script = words[-1] if is_last else words[0]
-    if _is_option(script):
+    script, options = (words[-1], words[:-1]) if is_last else (words[0], words[1:])
+    if is_last and options[-1:] == ["--"]:
+        # the name of a file, however it begins
+        options = options[:-1]
+    elif _is_option(script):
         raise Ended(_NO_OPTION.format(script), USAGE)
     try:
-        return run_script(Run(here, mode, words[:-1] if is_last else words[1:]), script)
+        return run_script(Run(here, mode, options), script)
     except Ended as error:
         is_missing = isinstance(error.__cause__, (FileNotFoundError, NotADirectoryError))
         if not may_be_word or not is_missing:
