@@ -235,7 +235,7 @@ def cases(setup):
             yield case(name, has_steps, script, text, origin=f"{place}, by docs/ASSEMBLER.md and docs/SPECIFICATION.md")
     for file in sorted(glob.glob(f"{SAMPLES}/*.symbolic")):
         yield case(f"names in the steps of {os.path.basename(file)}", names_commands, file)
-        yield case(f"listing of {os.path.basename(file)}", comes_back, read(file))
+        yield case(f"listing of {os.path.basename(file)}", are_stored, [read(file)], {read(file)})
     for file in sorted(os.listdir(SAMPLES)):
         if file.endswith(".script"):
             yield case(f"listing of {file}", is_sample, f"{SAMPLES}/{file.removesuffix('.script')}")
