@@ -79,7 +79,7 @@ wait 0
 SIZES = {"small": 19_000_000, "different": 25_000_000}
 
 # The most memory that each process of a run and its page takes, in MiB: the package's process is the larger one.
-MEMORY = {"small": 28, "different": 32}
+MEMORY = {"small": 28, "different": 34}
 
 
 def page_of(setup, *words, script):
