@@ -439,15 +439,16 @@ def told(event):
     if what == "posted":
         end = f"posted {event['code']}, CSW {event['address']} {event['status']} {event['residual']}, sense {event['sense']}"
         words = (names(int(event["status"], 16), STATUS) + names(int(event["sense"], 16), SENSE)).removeprefix(", ")
-        is_started = event["why"] in (None, "halted", "not tried again")
-        return f"{request} {end}" + (f": {words}" if words else "") + ("" if is_started else f", not started: {event['why']}")
+        started = {None: "", "halted": ", halted", "not tried again": ", not tried again: purged"}
+        return f"{request} {end}" + (f": {words}" if words else "") + started.get(event["why"], f", not started: {event['why']}")
     return f"DCB {event['dcb']} {what}"
 
 
 STATUS = {0x4000: "status modifier", 0x0200: "unit check", 0x0100: "unit exception", 0x0040: "incorrect length",
           0x0020: "program check", 0x0008: "channel data check", 0x0004: "channel control check", 0x0002: "interface control check"}
-SENSE = {0x8000: "command reject", 0x4000: "intervention required", 0x1000: "equipment check", 0x0800: "data check",
-         0x0040: "invalid track format", 0x0008: "no record found", 0x0004: "file protected"}
+SENSE = {0x8000: "command reject", 0x4000: "intervention required", 0x2000: "bus-out check", 0x1000: "equipment check",
+         0x0800: "data check", 0x0400: "overrun", 0x0040: "invalid track format", 0x0020: "end of cylinder",
+         0x0008: "no record found", 0x0004: "file protected"}
 
 
 def names(bits, table):
@@ -502,10 +503,11 @@ def step_lines(step):
         yield f"#           program check at {rule['at']}{image}: {rule['text']}"
         return
     if "moved" in step:
-        more = " ..." if step["more"] else ""
         digits = step["bytes"]
         groups = "-" if not digits else digits if digits == "skipped" else " ".join(re.findall(".{1,8}", digits)) + beside(digits)
-        yield f"#           {count(step['moved'], 'byte')} {step['way']} {step['address']}: {groups}{more}"
+        if step["more"]:
+            groups = f"... {groups}" if step["way"] == "down from" else f"{groups} ..."
+        yield f"#           {count(step['moved'], 'byte')} {step['way']} {step['address']}: {groups}"
     if "place" in step:
         yield f"#           {place_of(step['place'])}" if step["place"] else UNKNOWN
     status = int(step["status"], 16)

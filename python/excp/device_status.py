@@ -1,7 +1,8 @@
 """The bits of a device's status and of its sense bytes: the one table of their names.
 
 The order is that of the bits, from the highest (Principles of Operation, chapter 16, "Unit Status"
-and "Subchannel Status"; docs/SPECIFICATION.md has the sense bits that devices show).
+and "Subchannel Status"; docs/SPECIFICATION.md has the sense bits that devices show, and a fault can
+have others).
 """
 
 from __future__ import annotations
@@ -34,9 +35,12 @@ NORMAL_END = 0x0C00
 SENSE_BITS: Mapping[int, str] = {
     0x8000: "command reject",
     0x4000: "intervention required",
+    0x2000: "bus-out check",
     0x1000: "equipment check",
     0x0800: "data check",
+    0x0400: "overrun",
     0x0040: "invalid track format",
+    0x0020: "end of cylinder",
     0x0008: "no record found",
     0x0004: "file protected",
 }

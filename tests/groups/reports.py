@@ -121,6 +121,41 @@ def agree(setup, script):
             expect_text("another text", ran, text.out, actual)
 
 
+# Task 1 purges with halt what task 0 has issued, whose first command meets a data check. A seed decides how far that request is.
+PURGED = """tasks 2
+disk 0 0 1 1 40
+rec 0 0 0 1 data C'ABCD'
+fault 0 at 1 data check
+open 0 out all
+area 0
+IOB:    IOB   ecb=ECB start=CP dcb=1
+ECB:    ECB
+CP:     NOP   CC
+        RD    BUFFER,4
+BUFFER: DS    4
+endarea
+excp 0 0 1 IOB 0 BUFFER 4
+purge 1 0 1 halt
+"""
+
+# The seeds by which it ends in each way.
+SEEDS = 30
+
+
+def says_why_it_ended(setup):
+    """The history says how a purge with halt has ended a request: before its start, in its program, or before a further start."""
+    reasons = set()
+    for seed in map(str, range(1, SEEDS + 1)):
+        ran = setup.run("report", "--json", "--seed", seed, script=PURGED)
+        text = setup.run("report", "--seed", seed, script=PURGED)
+        found = as_json(ran)
+        actual = reports.text_of(found, None)
+        if not reports.is_text(actual, text.out):
+            expect_text("another text", ran, text.out, actual)
+        reasons |= {event["why"] for event in found["units"][0]["events"] if event["what"] == "posted"}
+    require(reasons == {None, "purged", "halted", "not tried again"}, f"it ends by {reasons} alone")
+
+
 def are_right(setup, seed):
     """The JSON of jobs at random is right, with few workers or many."""
     chance = random.Random(seed)
@@ -352,6 +387,7 @@ def cases(setup):
     for name, script, texts in stored():
         yield Case(f"JSON of {name}", lambda s=script, t=texts: is_right(setup, s, t), ORIGIN)
         yield Case(f"JSON and text of {name}", lambda s=script: agree(setup, s), ORIGIN)
+    yield Case("reasons of ends after a start", lambda: says_why_it_ended(setup), ORIGIN)
     for file in sorted(glob.glob(f"{SAMPLES}/*.steps")):
         script, text = read(file.removesuffix(".steps") + ".script"), read(file)
         texts = [text if "# unit " in text else without_history(text)]

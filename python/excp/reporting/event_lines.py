@@ -9,8 +9,8 @@ from .look import Look
 from .record import Members
 from .texts import counted
 
-# Why a request ends that was started. All other reasons keep it from being started.
-_AFTER_START = (None, "halted", "not tried again")
+# What is said of why a request ends that was started. All other reasons keep it from being started.
+_AFTER_START = {None: "", "halted": ", halted", "not tried again": ", not tried again: purged"}
 
 
 def event_line(unit: int, event: Members, look: Look) -> str:
@@ -70,7 +70,7 @@ def _purged(event: Members) -> str:
 def _posted(event: Members) -> str:
     csw = f"{event['address']} {event['status']} {event['residual']}"
     end = f"posted {event['code']}, CSW {csw}, sense {event['sense']}"
-    why = "" if event["why"] in _AFTER_START else f", not started: {event['why']}"
+    why = _AFTER_START.get(event["why"], f", not started: {event['why']}")
     bits = int(event["status"], 16) & ~NORMAL_END, int(event["sense"], 16)
     names = names_of(bits[0], STATUS_BITS) + names_of(bits[1], SENSE_BITS)
     words = f": {', '.join(names)}" if names else ""

@@ -27,8 +27,8 @@ _WELL = NORMAL_END | 0x4000
 # The hexadecimal digits of a group, and the width of what comes before the source of a CCW.
 _GROUP, _BEFORE_SOURCE = 8, 54
 
-# What the step of a command that skips has in place of its bytes.
-_SKIPPED = "skipped"
+# What the step of a command that skips has in place of its bytes, and the way of a read backward.
+_SKIPPED, _BACKWARD = "skipped", "down from"
 
 
 class _StepText(NamedTuple):
@@ -101,9 +101,12 @@ class StepLines:
 
     def _moved(self, step: Members, area: Optional[AreaSource]) -> Iterator[str]:
         if "moved" in step:
-            count, more = counted(step["moved"], "byte"), " ..." if step["more"] else ""
-            place = f"{step['way']} {step['address']}{_label(step['address'], area)}"
-            yield f"  {count} {place}: {self._bytes(step['bytes'])}{more}"
+            count, way, data = step["moved"], step["way"], self._bytes(step["bytes"])
+            if step["more"]:
+                # those that a read backward has put before them are left out
+                data = f"... {data}" if way == _BACKWARD else f"{data} ..."
+            place = f"{way} {step['address']}{_label(step['address'], area)}"
+            yield f"  {counted(count, 'byte')} {place}: {data}"
 
     def _bytes(self, digits: str) -> str:
         """Bytes in hexadecimal, in groups, and their text; a hyphen for none."""
