@@ -525,6 +525,67 @@ def shows_its_source(setup):
         require(not it.said, f"on the console: {it.said[:3]}")
 
 
+# Searches that find no record: for keys that are longer than what a step shows, one of one CCW and one of a data chain; and for an ID
+# that the skip flag keeps from the step.
+SEARCHES = """tasks 1
+disk 0 0 1 1 1000
+rec 0 0 0 1 key C'SYS1.PROCLIB.OLD' fill 44 data C'F1'
+rec 0 0 0 2 key C'SYS1.LINKLIB' fill 44 data C'F1'
+open 0 in all
+area 0
+A:     IOB ecb=ECB start=LONG dcb=1
+B:     IOB ecb=ECB start=CHAIN dcb=1
+C:     IOB ecb=ECB start=NONE dcb=1
+ECB:   ECB
+LONG:  SKE KEY,44,CC
+       TIC LONG
+       RD BUFFER,2
+CHAIN: SKE KEY,1,CD
+       CCW 0,KEY+1,43,CC
+       TIC CHAIN
+       RD BUFFER,2
+NONE:  SIDE ID,5,SKIP CC
+       TIC NONE
+       RD BUFFER,2
+KEY:   DC C'SYS1.LINKLIB.NEW' fill 44
+ID:    CCHHR 0,0,9
+BUFFER: DS 2
+endarea
+excp 0 0 1 A 0 BUFFER 2
+excp 0 0 1 B 0 BUFFER 2
+excp 0 0 1 C 0 BUFFER 2
+"""
+
+# What a search looked for, the marked bytes of each record, and how many pixels of the panel are cut off.
+COMPARED = """(() => {
+  const panel = document.querySelector('aside.panel');
+  const {right} = panel.querySelector('.content').getBoundingClientRect();
+  const rights = [...panel.querySelectorAll('.content *')].map(it => it.getBoundingClientRect().right);
+  const wide = [panel, ...panel.querySelectorAll('.wide-table, .compare')].map(it => it.scrollWidth - it.clientWidth);
+  const rows = [...panel.querySelectorAll('.compare tr')];
+  return [panel.querySelector('.compare p').textContent, rows.map(row => [...row.querySelectorAll('mark')].map(it => it.textContent).join('')),
+    Math.round(Math.max(0, ...wide, ...rights.map(it => it - right)))];
+})()"""
+
+
+def compares_what_it_knows(setup):
+    """The panel of a search that found no record says whether the JSON has all that it looked for, and marks no byte beyond that. Long
+    keys are whole in it."""
+    old, wanted = ("SYS1.PROCLIB.OLD".encode("cp037"), "SYS1.LINKLIB.NEW".encode("cp037"))
+    blanks = "SYS1.LINKLIB".encode("cp037").ljust(16, b"\x40")
+    differing = ["".join(f"{one:02X}" for one, other in zip(key, wanted) if one != other) for key in (old, blanks)]
+    key = f"Looked for key {pages.grouped(wanted.hex().upper())} |SYS1.LINKLIB.NEW| … on track 0 0, passed 4 records, found none."
+    expected = [(key, differing), ("Looked for key E2 |S| … on track 0 0, passed 4", ["", ""]), ("Looked on track 0 0, passed 6", ["", "", ""])]
+    with tempfile.TemporaryDirectory() as folder, browser.Browser() as it:
+        file = written(folder, page_of(setup, "report", "--html", script=SEARCHES))
+        for number, (words, marks) in enumerate(expected, 1):
+            for width in 1280, 1010, 400:
+                it.open(file, f"#q0-0-{number}", width=width)
+                said, marked, cut = it.value(COMPARED)
+                require(said.startswith(words) and marked == marks, f"request {number} says {said!r} and marks {marked}")
+                require(cut == 0, f"at {width} pixels the panel of request {number} lacks {cut} pixels")
+
+
 # The lanes of commands that the filter leaves, after its button of a code.
 FILTERED = """(() => {
   [...document.querySelectorAll('.filters button')].find(it => it.textContent.startsWith('41')).click();
@@ -632,6 +693,7 @@ def cases(setup):
     yield Case("in a browser, blanks and hints", lambda: keeps_blanks_and_hides_hints(setup), ORIGIN)
     yield Case("in a browser, the filter of programs", lambda: filters_its_programs(setup), ORIGIN)
     yield Case("in a browser, a panel", lambda: docks_its_panel(setup), ORIGIN)
+    yield Case("in a browser, searches that find nothing", lambda: compares_what_it_knows(setup), ORIGIN)
     yield Case("in a browser, a program of a job", lambda: shows_its_source(setup), ORIGIN)
     yield Case("in a browser, many lanes", lambda: shows_all_lanes(setup), ORIGIN)
     yield Case("in a browser, a broken address", lambda: notices(setup), ORIGIN)

@@ -59,6 +59,9 @@ function ebcdic(hex) {
   return text;
 }
 
+/** Whether a member of a step has bytes: it may be `skipped`, or empty. */
+const isHexadecimal = (text) => /^[0-9A-F]+$/.test(text ?? "");
+
 /** Bytes in hexadecimal in groups of four. */
 const grouped = (hex) => hex.replace(/.{8}(?=.)/g, "$& ");
 

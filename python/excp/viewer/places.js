@@ -31,19 +31,20 @@ function placeId({ unit, medium }, step, { item, page, line, cylinder, head, rec
 
 /** Whether an item of a tape begins with the bytes that a step moved, if these show how it began. */
 const isMovedBy = ({ ccws, way, bytes = "" }, item) => way === "down from" || ccws.some(({ flags }) => flags.includes("SKIP"))
-  || !/^[0-9A-F]+$/.test(bytes) || (item.bytes ?? "").startsWith(bytes);
+  || !isHexadecimal(bytes) || (item.bytes ?? "").startsWith(bytes);
 
-/** What a search that found nothing looked for, beside what its track had then. */
+/** What a search that found nothing looked for, as far as the JSON has it, beside what its track had then. */
 function comparisonOf({ unit, medium }, place, search) {
   const { cylinder, head, passed } = place;
   const found = place.keys ?? place.ids ?? [];
   const more = place.keys_more ?? place.ids_more ?? 0;
-  const wanted = search?.bytes ?? "";
+  const wanted = isHexadecimal(search?.bytes) ? { digits: search.bytes, isWhole: !search.more } : null;
   const text = (hex) => (place.keys ? ` |${ebcdic(hex)}|` : "");
   const kind = place.keys ? "key" : "ID";
   const records = recordsOf(medium, place);
   const isThere = (bytes, nth) => bytes === (place.keys ? records[nth]?.key : records[nth]?.id);
-  const words = wanted ? [`Looked for ${kind} `, el("code", null, grouped(wanted)), `${text(wanted)} on `] : "Looked on ";
+  const words = wanted ? [`Looked for ${kind} `, el("code", null, grouped(wanted.digits)), text(wanted.digits),
+    wanted.isWhole ? " on " : " … on "] : "Looked on ";
   return el("div", { class: "compare" },
     el("p", null, words, `track ${cylinder} ${head}, passed ${counted(passed, "record")}, found none. The track had:`),
     el("table", { class: "facts code" }, found.map((bytes, nth) => (nth === 0 && !bytes ? null : el("tr", null,
@@ -52,8 +53,10 @@ function comparisonOf({ unit, medium }, place, search) {
     more ? el("p", { class: "dim" }, `and ${counted(more, "record")} more`) : null);
 }
 
-/** Bytes, of which those that differ from what was looked for are marked. */
+/** Bytes, of which those that are known to differ from what was looked for are marked. */
 function digitsBeside(bytes, wanted) {
   const pairs = bytes.match(/../g) ?? ["–"];
-  return pairs.map((byte, at) => (!wanted || byte === wanted.slice(2 * at, 2 * at + 2) ? byte : el("mark", null, byte)));
+  const isKnown = (at) => wanted && (wanted.isWhole || 2 * at < wanted.digits.length);
+  const differs = (byte, at) => isKnown(at) && byte !== wanted.digits.slice(2 * at, 2 * at + 2);
+  return pairs.map((byte, at) => (differs(byte, at) ? el("mark", null, byte) : byte));
 }

@@ -72,7 +72,7 @@ function dataOf({ ccws }, { moved, way, address, bytes, more }) {
   if (moved === undefined) return "";
   const operand = ccws.find(({ image }) => image.slice(2, 8) === address)?.operand;
   const line = `${counted(moved, "byte")} ${way} ${address}${operand ? ` ${operand}` : ""}`;
-  return /^[0-9A-F]+$/.test(bytes) ? [line, hexOfBytes(bytes, more, STEP_BYTES)] : `${line}: ${bytes}`;
+  return isHexadecimal(bytes) ? [line, hexOfBytes(bytes, more, STEP_BYTES)] : `${line}: ${bytes}`;
 }
 
 function statusOf(step) {
