@@ -399,6 +399,12 @@ HINTS = """(async () => {
   return left;
 })()"""
 
+# Closes the panel, and waits until the lanes are drawn anew.
+CLOSED = """new Promise(done => {
+  document.querySelector('[aria-label^=Close]').click();
+  requestAnimationFrame(() => requestAnimationFrame(done));
+})"""
+
 # The colours of waits, and of bars.
 COLOURS = """['.drawing .wait', '.legend .wait', '.drawing .run'].map(name => [...new Set([...document.querySelectorAll(name)].map(it =>
   name.endsWith('wait') ? getComputedStyle(it).stroke : it.closest('.bar').className.baseVal))])"""
@@ -413,7 +419,7 @@ def keeps_blanks_and_hides_hints(setup):
         texts.append(it.value("document.querySelector('aside.panel').innerText"))
         for text, words in zip(texts, ("key C1404040C2 |A   B|", "|A  BB| on track"), strict=True):
             require(words in text.replace("\u00a0", " "), f"a panel has no {words!r}: {text}")
-        it.value("document.querySelector('[aria-label^=Close]').click()")
+        it.value(CLOSED)
         waits, legend, bars = it.value(COLOURS)
         require(len(waits) == 1 and waits == legend and len(bars) > 1, f"waits have {waits} and {legend}, bars are {bars}")
         left = it.value(HINTS)
