@@ -6,11 +6,14 @@ from harness import require
 # The most changes of a unit that a page lists at once, and the bytes of each that it shows.
 LISTED = 60
 SHOWN = 64
+# What the page has in place of the bytes of a record or item that is not there.
+NONE = "none"
 
-# Of each change its name, and the marked bytes before and after; and the units that are drawn twice.
+# Of each change its name on the page and its marked bytes, before and after, or `none`; and the units that are drawn twice.
 CHANGES = """(() => {
   for (const it of document.querySelectorAll('section.unit')) it.build();
-  const marks = (cell) => [...cell.querySelectorAll('mark')].map(it => it.textContent).join('');
+  const marks = (cell) => cell.querySelector('.dim')?.textContent === 'none' ? 'none'
+    : [...cell.querySelectorAll('mark')].map(it => it.textContent).join('');
   const changed = [...document.querySelectorAll('.change')].map(it => [it.dataset.change, ...[1, 2].map(nth => marks(it.children[nth]))]);
   const units = [...document.querySelectorAll('section.unit')].filter(it => [...it.querySelectorAll('h4')].some(it => it.textContent === 'Before the run'));
   return [changed, units.map(it => it.id), [...document.querySelectorAll('.changed')].map(it => it.id)];
@@ -20,19 +23,16 @@ CHANGES = """(() => {
 def check_changes(script, run, found):
     """Fails if a page lists other changes, or draws a medium twice that did not change."""
     changed, twice, outlined = found
-    wanted = {}
+    wanted = []
     for unit in run["units"]:
         if unit["kind"] != "printer" and unit["medium"]["whole"]:
             differences = differences_of(things_before(script, unit["unit"]), things_after(unit))
-            wanted.update(list(differences.items())[:LISTED])
-    require({name: (one, other) for name, one, other in changed} == wanted, f"the page lists the changes {changed}, and not {wanted}")
-    units = sorted({name.split("-")[0][1:] for name in wanted}, key=int)
+            wanted += differences[:LISTED]
+    changed, wanted = (sorted(changes, key=lambda change: change[0]) for changes in (changed, wanted))
+    require(changed == wanted, f"the page lists the changes {changed}, and not {wanted}")
+    units = sorted({name.split("-")[0][1:] for name, *_ in wanted}, key=int)
     require(twice == [f"unit{unit}" for unit in units], f"the page has {twice} before and after, and not the units {units}")
-    require({name for name, (_, now) in wanted.items() if now} <= {*outlined, *names_of_removed(wanted)}, f"only {outlined} are marked")
-
-
-def names_of_removed(wanted):
-    return {name for name, (_, now) in wanted.items() if not now}
+    require({name for name, _, now in wanted if now != NONE} <= {*outlined}, f"only {outlined} are marked")
 
 
 def things_before(script, unit):
@@ -66,19 +66,22 @@ def things_after(unit):
 
 
 def differences_of(before, after):
-    """The bytes that differ of each thing, before and after, as far as the page shows them."""
-    found = {}
+    """The bytes that differ at each place, before and after, as far as the page shows them. What is something else, by its name or
+    its kind, is listed after what it replaced."""
+    found = []
     for name in [*before, *(name for name in after if name not in before)]:
         old, now = before.get(name), after.get(name)
-        if old != now:
-            found[name] = marked(old, now), marked(now, old)
+        if old and now and old[0] == now[0]:
+            found += [[name, marked(old, now), marked(now, old)]] if old != now else []
+        else:
+            found += [[name, marked(old, None), NONE]] if old else []
+            found += [[name, NONE, marked(now, None)]] if now else []
     return found
 
 
 def marked(thing, other):
-    areas = thing[1] if thing else []
     others = [*(other[1] if other else []), "", ""]
-    return "".join(marked_in(area, others[nth]) for nth, area in enumerate(areas))
+    return "".join(marked_in(area, others[nth]) for nth, area in enumerate(thing[1]))
 
 
 def marked_in(area, other):

@@ -613,8 +613,10 @@ def leads_to_what_was_there(setup):
     """No link leads to a record or block that came later to the place of another one. Each dot is in its wait."""
     with tempfile.TemporaryDirectory() as folder, browser.Browser() as it:
         text = page_of(setup, "report", "--html", script=GONE)
-        shows_its_facts(it, written(folder, text), pages.Page(text).run())
+        run_of_page = pages.Page(text).run()
+        shows_its_facts(it, written(folder, text), run_of_page)
         require(it.value(OUTSIDE) == 0, "a dot is in no wait")
+        changes.check_changes(GONE, run_of_page, it.value(changes.CHANGES))
 
 
 def notices(setup):

@@ -34,14 +34,21 @@ function ownName({ cylinder, head, record, id }) {
   return nameOfRecord({ cylinder, head, record, id: id === homeOf(cylinder, head) + hexOf(record, 2) ? "" : id });
 }
 
-/** What differs on a unit before and after a run. @returns {Change[]} */
+/** What differs on a unit before and after a run. A thing with another name at the same place is another thing. @returns {Change[]} */
 function changesOf(before, after) {
-  const changes = new Map();
-  const asText = (thing) => `${thing?.name} ${thing?.areas}`;
-  for (const thing of thingsOn(before)) changes.set(thing.id, { old: thing });
-  for (const thing of thingsOn(after)) changes.set(thing.id, { ...changes.get(thing.id), now: thing });
-  return [...changes].filter(([, { old, now }]) => asText(old) !== asText(now))
-    .map(([id, { old, now }]) => ({ id, name: (now ?? old).name, before: old?.areas, after: now?.areas }));
+  const places = new Map();
+  for (const thing of thingsOn(before)) places.set(thing.id, { old: thing });
+  for (const thing of thingsOn(after)) places.set(thing.id, { ...places.get(thing.id), now: thing });
+  return [...places.values()].flatMap(({ old, now }) => {
+    if (old?.name !== now?.name) return [changeOf(old), changeOf(undefined, now)].filter(Boolean);
+    return `${old.areas}` === `${now.areas}` ? [] : [changeOf(old, now)];
+  });
+}
+
+/** A change of a thing; nothing if it was at no time there. @returns {?Change} */
+function changeOf(old, now) {
+  const thing = now ?? old;
+  return thing ? { id: thing.id, name: thing.name, before: old?.areas, after: now?.areas } : null;
 }
 
 /** Gives two media one scale: the bytes of the longest track or strip of both. */
