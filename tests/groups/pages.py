@@ -592,6 +592,41 @@ def compares_what_it_knows(setup):
                 require(cut == 0, f"at {width} pixels the panel of request {number} lacks {cut} pixels")
 
 
+# Requests that find no record, each after a reset of their DCB.
+FLAGS = "\n".join(["""tasks 1
+disk 0 0 1 1 200
+open 0 in all
+area 0
+IOB: IOB ecb=ECB start=CP dcb=1 related
+ECB: ECB
+CP:  SIDE ID,5,CC
+     TIC CP
+     RD BUFFER,2
+ID:  CCHHR 0,0,9
+BUFFER: DS 2
+endarea""", *(6 * ["excp 0 0 1 IOB 0 BUFFER 2", "wait 0", "reset 0 0 1"]), ""])
+
+# The strips of a lane, and their labels: from where to where each of them is.
+STRIPS = """['.body', '.plate'].map(name => [...document.querySelectorAll(`.drawing .strip ${name}`)].map(it => {
+  const {left, right} = it.getBoundingClientRect();
+  return [left, right];
+}))"""
+
+
+def labels_its_strips(setup):
+    """No label of a strip is over another label, or over another strip of its row."""
+    with tempfile.TemporaryDirectory() as folder, browser.Browser() as it:
+        file = written(folder, page_of(setup, "report", "--html", script=FLAGS))
+        for width in 400, 1280:
+            it.open(file, width=width)
+            strips, labels = it.value(STRIPS)
+            require(len(strips) == 6 and labels, f"there are the strips {strips} with the labels {labels}")
+            require(len(labels) == 6 or width < 1280, f"at {width} pixels only {labels} have a label")
+            for place, (left, right) in enumerate(labels):
+                over = [other for other in [*labels[:place], *strips] if left < other[1] and other[0] < right]
+                require(len(over) <= 1, f"at {width} pixels the label from {left} to {right} is over {over}")
+
+
 # The lanes of commands that the filter leaves, after its button of a code.
 FILTERED = """(() => {
   [...document.querySelectorAll('.filters button')].find(it => it.textContent.startsWith('41')).click();
@@ -702,6 +737,7 @@ def cases(setup):
     yield Case("in a browser, the filter of programs", lambda: filters_its_programs(setup), ORIGIN)
     yield Case("in a browser, a panel", lambda: docks_its_panel(setup), ORIGIN)
     yield Case("in a browser, searches that find nothing", lambda: compares_what_it_knows(setup), ORIGIN)
+    yield Case("in a browser, labels of strips", lambda: labels_its_strips(setup), ORIGIN)
     yield Case("in a browser, a program of a job", lambda: shows_its_source(setup), ORIGIN)
     yield Case("in a browser, many lanes", lambda: shows_all_lanes(setup), ORIGIN)
     yield Case("in a browser, a broken address", lambda: notices(setup), ORIGIN)

@@ -89,19 +89,23 @@ class Drawing {
   /** The strips of the DCBs that are in error or closed. */
   drawStrips(lane) {
     const { view } = this;
-    const parts = [];
-    for (const strip of lane.shownStrips) {
-      const left = view.middle(strip.from);
-      const right = view.x(Math.min(strip.to - 0.5, this.model.length));
-      if (right < 0 || left > view.width) continue;
-      const y = stripMiddle(lane, strip.row);
-      const words = `DCB ${strip.dcb} ${strip.isClosed ? "closed" : "error flag"}`;
-      const width = plateWidth(words);
-      const inside = Math.max(0, Math.min(Math.max(left, 0) + 4, view.width - width - 4));
-      const x = right - left < width + 8 && left > width ? left - width - 2 : inside;
-      parts.push(svg("g", { class: `strip ${strip.isClosed ? "closed" : "flagged"}` },
-        box("body", left, right, y, STRIP_ROW / 2 - 2), plate(words, { x, width }, y)));
+    const rightOf = ({ to }) => view.x(Math.min(to - 0.5, this.model.length));
+    const strips = lane.shownStrips.map((strip) => ({ ...strip, left: view.middle(strip.from), right: rightOf(strip) }))
+      .filter(({ left, right }) => right >= 0 && left <= view.width);
+    const next = new Map();
+    for (const strip of [...strips].reverse()) {
+      strip.after = Math.min(next.get(strip.row)?.left ?? view.width, view.width);
+      next.set(strip.row, strip);
     }
+    const taken = new Map();
+    const parts = strips.map(({ dcb, row, isClosed, left, right, after }) => {
+      const y = stripMiddle(lane, row);
+      const words = `DCB ${dcb} ${isClosed ? "closed" : "error flag"}`;
+      const label = placeStripLabel([words, `DCB ${dcb}`], [left, right], [taken.get(row) ?? 0, after]);
+      taken.set(row, Math.max(right, label ? label.x + label.width : 0));
+      return svg("g", { class: `strip ${isClosed ? "closed" : "flagged"}`, "data-tip": words },
+        box("body", left, right, y, STRIP_ROW / 2 - 2), label ? plate(label.words, label, y) : null);
+    });
     const words = `and ${counted(lane.moreStrips, "DCB")} more in error or closed`;
     if (lane.moreStrips) parts.push(plate(words, { x: 4, width: plateWidth(words) }, lane.height - 7));
     return parts;
@@ -157,4 +161,17 @@ class Drawing {
     });
     return { grid, numbers };
   }
+}
+
+/** The first label of a strip that has room in its row, to the left of a short strip or from its left edge on; undefined for none. */
+function placeStripLabel(labels, [left, right], [before, after]) {
+  const inside = Math.max(left, 0) + 4;
+  for (const words of labels) {
+    const width = plateWidth(words);
+    const isShort = Math.min(right, after) - inside < width + 4;
+    const places = isShort ? [left - width - 2, inside, after - width - 4] : [inside];
+    const x = places.find((it) => it >= before && it + width <= after);
+    if (x !== undefined) return { words, x, width };
+  }
+  return undefined;
 }
