@@ -55,6 +55,10 @@ class Page(HTMLParser):
         """The run, of both parts of its JSON."""
         return {**json.loads(self.texts["front"]), **json.loads(self.texts["rest"])}
 
+    def facts(self):
+        """The run, and as `job` what the page has of the script."""
+        return {**self.run(), "job": json.loads(self.texts["job"])}
+
 
 def digest(text):
     return f"sha256-{base64.b64encode(hashlib.sha256(text.encode()).digest()).decode()}"

@@ -28,7 +28,18 @@ def check_programs(run, found, has_tables):
         return require(not found, f"a page of {len(requests)} requests has lanes of commands")
     require(set(found) == {request[0] for request in requests}, f"there are lanes of commands of {sorted(found)}")
     for name, _, events, *_ in requests:
-        check_lane(name, commands_of(run, events), found[name])
+        check_lane(name, commands_of(run, events, mnemonics_of(run, name)), found[name])
+
+
+def mnemonics_of(run, name):
+    """The mnemonics of the CCWs in the program of a request, as the page has the script, by their addresses and bytes."""
+    task, unit, number = map(int, name[1:].split("-"))
+    issued = [(it["unit"], it["request"]) for it in run["task_events"][task] if it["what"] == "issued"]
+    numbers = run["job"]["requests"][task] if run["job"] else []
+    if len(issued) != len(numbers):
+        return {}
+    program = run["job"]["programs"][numbers[issued.index((unit, number))]]
+    return {(ccw["at"], ccw["image"]): ccw["mnemonic"] for ccw in program if ccw["mnemonic"]}
 
 
 def check_lane(name, commands, parts):
@@ -56,9 +67,9 @@ def shown(parts):
     return found
 
 
-def commands_of(run, events):
+def commands_of(run, events, mnemonics):
     """The CCWs of a request, one by one, each with whether it failed. Of attempts in a row that differ in their faults alone, the
-    first. A transfer back to the same command is not named."""
+    first. A transfer back to the same command is not named. A CCW that was rejected has the mnemonic of the script."""
     found, last, attempt = [], None, []
     for event in [*events, {"what": "started"}]:
         if event["what"] == "ran":
@@ -66,18 +77,19 @@ def commands_of(run, events):
         elif event["what"] == "started" and attempt:
             key = re.sub(r'"fault": \d+', '"fault": 1', json.dumps(attempt))
             if key != last:
-                found += commands_in([step for steps in attempt for step in steps])
+                found += commands_in([step for steps in attempt for step in steps], mnemonics)
             last, attempt = key, []
     return found
 
 
-def commands_in(steps):
+def commands_in(steps, mnemonics):
     found, before = [], None
     for step in (it for step in steps for _ in range(step.get("times", 1)) for it in step.get("loop", [step])):
         chain = [(ccw["at"], name_of(ccw), has_failed(step, ccw["at"])) for ccw in step["ccws"]]
         rule = step.get("rule")
         if rule and rule["at"] not in [at for at, *_ in chain]:
-            chain.append((rule["at"], operation(rule["image"]) if rule["image"] else rule["at"], True))
+            name = operation(rule["image"]) if rule["image"] else rule["at"]
+            chain.append((rule["at"], mnemonics.get((rule["at"], rule["image"]), name), True))
         is_again = before is not None and len(chain) == 1 and before[0] == chain[0][0]
         if before is not None and before[1] not in (None, chain[0][0]) and not is_again:
             found.append(("TIC", False))

@@ -299,7 +299,7 @@ def opened(setup, sheets):
         for name, words, script in sheets:
             text = page_of(setup, *words, script=script)
             try:
-                run_of_page = pages.Page(text).run()
+                run_of_page = pages.Page(text).facts()
                 shows_its_facts(it, written(folder, text), run_of_page)
                 if "endarea" not in script:
                     changes.check_changes(script, run_of_page, it.value(changes.CHANGES))
@@ -648,7 +648,7 @@ def leads_to_what_was_there(setup):
     """No link leads to a record or block that came later to the place of another one. Each dot is in its wait."""
     with tempfile.TemporaryDirectory() as folder, browser.Browser() as it:
         text = page_of(setup, "report", "--html", script=GONE)
-        run_of_page = pages.Page(text).run()
+        run_of_page = pages.Page(text).facts()
         shows_its_facts(it, written(folder, text), run_of_page)
         require(it.value(OUTSIDE) == 0, "a dot is in no wait")
         changes.check_changes(GONE, run_of_page, it.value(changes.CHANGES))
@@ -657,7 +657,7 @@ def leads_to_what_was_there(setup):
 def notices(setup):
     """The reader of facts notices a broken address of a program check."""
     text = page_of(setup, "report", "--html", script=read(f"{SAMPLES}/how-programs-end.script"))
-    run_of_page = pages.Page(text).run()
+    run_of_page = pages.Page(text).facts()
     rule = next(step["rule"] for steps in run_of_page["steps"] for step in steps if "rule" in step)
     with tempfile.TemporaryDirectory() as folder, browser.Browser() as it:
         file = written(folder, text)
@@ -699,7 +699,7 @@ def says_its_bound(setup):
             for number in range(40):
                 image.write(struct.pack("<HHBB", len(block), len(block) if number else 0, 0xA0, 0) + block)
         text = page_of(setup, "report", "--html", "--load", f"0={folder}/tape.aws", script=script)
-        run_of_page = pages.Page(text).run()
+        run_of_page = pages.Page(text).facts()
         medium = run_of_page["units"][0]["medium"]
         require((medium["whole"], medium["count"], medium["numbers"]) == (False, 40, [1]), f"the medium has {medium['numbers']}")
         shows_its_facts(it, written(folder, text), run_of_page)

@@ -5,8 +5,18 @@
  * @returns {{numbers: number[], runs: Moment[], steps: object[]}[]}
  */
 function attemptGroups(model, request) {
-  return sameInARow(model, attemptsOf(request)).map(({ numbers, runs }) =>
-    ({ numbers, runs, steps: joinLoops(runs.flatMap(({ event }) => stepsOf(model, event))) }));
+  return sameInARow(model, attemptsOf(request)).map(({ numbers, runs }) => {
+    const steps = joinLoops(runs.flatMap(({ event }) => stepsOf(model, event)));
+    return { numbers, runs, steps: steps.map((step) => withMnemonic(model, request, step)) };
+  });
+}
+
+/** A step that broke a rule, with the mnemonic that the program of its request has at the CCW. The JSON names no CCW that is rejected. */
+function withMnemonic(model, request, step) {
+  if (!step.rule?.image) return step;
+  const { at, image } = step.rule;
+  const ccw = programOf(model, request).find((it) => it.at === at && it.image === image);
+  return { ...step, rule: { ...step.rule, mnemonic: ccw?.mnemonic } };
 }
 
 function sameInARow(model, attempts) {

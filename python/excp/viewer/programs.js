@@ -112,5 +112,5 @@ function ccwCell(step, { at, image, name, mnemonic, flags }, count) {
 /** The name of a CCW that is no command of its device. */
 const operationOf = (image) => (image[1] === "8" ? TRANSFER : `X'${image.slice(0, 2)}'`);
 
-const ruleCell = ({ at, image, text }) =>
-  ({ at, name: image ? operationOf(image) : at, count: 1, isBad: true, tip: `program check at ${at}\n${text}` });
+const ruleCell = ({ at, image, mnemonic, text }) =>
+  ({ at, name: mnemonic ?? (image ? operationOf(image) : at), count: 1, isBad: true, tip: `program check at ${at}\n${text}` });

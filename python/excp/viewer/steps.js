@@ -59,7 +59,8 @@ const ccwRow = (context, { at, image, name, mnemonic, flags }, isBroken, did) =>
 
 function brokenRule({ ccws, rule }) {
   const isShown = ccws.some(({ at }) => at === rule.at);
-  return [el("span", { "data-at": rule.at }, `program check at ${rule.at}`), rule.image && !isShown ? `  ${grouped(rule.image)}` : "", ": ", rule.text];
+  const ccw = rule.image && !isShown ? [" ", el("b", { class: "code" }, rule.mnemonic ?? ""), ` ${grouped(rule.image)}`] : "";
+  return [el("span", { "data-at": rule.at }, `program check at ${rule.at}`), ccw, ": ", rule.text];
 }
 
 /** The label of a CCW in a job in symbols. */
