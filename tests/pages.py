@@ -21,8 +21,9 @@ FIRST_STEPS = 120
 STARTS = 4
 NAMED = 40
 
-SENSE = {0x8000: "command reject", 0x4000: "intervention required", 0x1000: "equipment check", 0x0800: "data check",
-         0x0040: "invalid track format", 0x0008: "no record found", 0x0004: "file protected"}
+SENSE = {0x8000: "command reject", 0x4000: "intervention required", 0x2000: "bus-out check", 0x1000: "equipment check",
+         0x0800: "data check", 0x0400: "overrun", 0x0040: "invalid track format", 0x0020: "end of cylinder",
+         0x0008: "no record found", 0x0004: "file protected"}
 
 # The most DCBs of a unit that have strips.
 STRIPS = 6

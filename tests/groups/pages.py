@@ -627,6 +627,76 @@ def labels_its_strips(setup):
                 require(len(over) <= 1, f"at {width} pixels the label from {left} to {right} is over {over}")
 
 
+# A read whose bytes are skipped, two no-operations with faults, a read without a count, and a purge. Nothing is written.
+WORDS = """tasks 2
+disk 0 0 1 1 200
+rec 0 0 0 1 key C'K' data C'ABCDEFGHIJKLMNOPQRSTUVWX'
+rec 0 0 0 2 data C'A'
+fault 0 4 0E 00 0200
+fault 0 5 0E 00 2420
+open 0 in all
+area 0
+SKIPS: IOB ecb=ECB start=CP dcb=1
+FAILS: IOB ecb=ECB start=CP2 dcb=1
+ZERO:  IOB ecb=ECB start=CP3 dcb=1
+ECB:   ECB
+CP:    SIDE ID,5,CC
+       TIC CP
+       RD BUFFER,24,SKIP
+CP2:   NOP
+CP3:   RD BUFFER,0
+ID:    CCHHR 0,0,1
+BUFFER: DS 24
+endarea
+excp 0 0 1 SKIPS 0 BUFFER 24
+wait 0
+excp 0 0 1 FAILS 0 BUFFER 24
+wait 0
+excp 0 0 1 FAILS 0 BUFFER 24
+wait 0
+excp 0 0 1 ZERO 0 BUFFER 24
+wait 0
+purgetask 0 0 halt
+"""
+
+# The text of an element, with one blank for each space and end of a line; and the rows of the bytes that a panel shows.
+TEXT = "document.querySelector(%s).textContent.replace(/\\s+/g, ' ')"
+ROWS_SHOWN = "[...document.querySelectorAll('aside.panel .content > section:last-child .hex > div')].map(it => it.textContent)"
+
+# Whether the button for all panels is seen: of the whole run, and of a task that issued nothing.
+OFFERED = """['', '1'].map(task => {
+  const select = document.querySelector('.filters select');
+  select.value = task;
+  select.dispatchEvent(new Event('change'));
+  return document.querySelector('#requests .all').checkVisibility();
+})"""
+
+
+def says_it_well(setup):
+    """The sentences of a page are whole, and each part of it says what is known."""
+    expected = {
+        "#unit0 p": ["2 records, and record 0 of each track. ", "key data. The run left it as it was."],
+        ".drawing .task": ["purge of task 0 with halt, on unit 0"],
+        ".note": ["A dot is where a task can first have collected the post."],
+        '[data-request="q0-0-4"] .cells': ["✕ RD"],
+    }
+    panels = {1: ["24 bytes to 0010AD BUFFER: skipped …"], 2: ["unit check, sense 0200, fault 1"],
+              3: ["unit check, sense 2420 bus-out check, overrun, end of cylinder, fault 2"], 4: ["program check at 0010A0 RD 060010AD 00000000: the count is zero"]}
+    with tempfile.TemporaryDirectory() as folder, browser.Browser() as it:
+        file = written(folder, page_of(setup, "report", "--html", script=WORDS))
+        it.open(file, "#unit0")
+        found = {selector: it.value(TEXT % json.dumps(selector)) for selector in expected}
+        for number, words in panels.items():
+            it.open(file, f"#q0-0-{number}")
+            expected[number], found[number] = words, it.value(TEXT % "'aside.panel'")
+            rows = it.value(ROWS_SHOWN)
+            require(rows == ["00000000 00000000  ........"] * 3, f"the bytes shown of request {number} are {rows}")
+        for selector, words in expected.items():
+            for text in words:
+                require(text in found[selector], f"{selector} lacks {text!r}: {found[selector]}")
+        require(it.value(OFFERED) == [True, False], "panels of no request are offered")
+
+
 # The lanes of commands that the filter leaves, after its button of a code.
 FILTERED = """(() => {
   [...document.querySelectorAll('.filters button')].find(it => it.textContent.startsWith('41')).click();
@@ -738,6 +808,7 @@ def cases(setup):
     yield Case("in a browser, a panel", lambda: docks_its_panel(setup), ORIGIN)
     yield Case("in a browser, searches that find nothing", lambda: compares_what_it_knows(setup), ORIGIN)
     yield Case("in a browser, labels of strips", lambda: labels_its_strips(setup), ORIGIN)
+    yield Case("in a browser, words", lambda: says_it_well(setup), ORIGIN)
     yield Case("in a browser, a program of a job", lambda: shows_its_source(setup), ORIGIN)
     yield Case("in a browser, many lanes", lambda: shows_all_lanes(setup), ORIGIN)
     yield Case("in a browser, a broken address", lambda: notices(setup), ORIGIN)

@@ -43,6 +43,7 @@ function diskOf(unit) {
   const { cylinders, heads, bytes, records } = medium;
   const tracks = [...tracksOf(medium).values()].map((track) => ({ ...track, used: usedOf(medium, track) }));
   const total = cylinders * heads;
+  const others = tracks.reduce((sum, track) => sum + recordsOf(medium, track).length - 1, 0);
   const longest = tracks.reduce((most, { used }) => Math.max(most, used), medium.scale ?? 1);
   const size = longest * 4 > bytes ? bytes : Math.ceil((longest * 5) / 256) * 64;
   const parts = el("div", { class: "disk" });
@@ -57,9 +58,9 @@ function diskOf(unit) {
   if (!tracks.length) parts.append(gap(total) ?? "");
   return {
     words: [`${counted(cylinders, "cylinder")} of ${counted(heads, "head")}, ${many(bytes)} bytes a track; `,
-      `${counted(records.length, "record")} beside each record 0. `,
+      `${counted(others, "record")}, and record 0 of each track. `,
       size < bytes ? `The first ${many(size)} bytes of each track, to scale:` : "To scale:",
-      ["count", "key", "data"].map((area) => [" ", el("i", { class: `swatch ${area}` }), ` ${area}`])],
+      ["count", "key", "data"].map((area) => [" ", el("i", { class: `swatch ${area}` }), ` ${area}`]), "."],
     parts: [notWhole(medium, "tracks"), total > TRACKS_WITHOUT_MAP ? mapOf(medium, tracks, total) : null, parts,
       records.length ? listing("Records in hexadecimal", records, (record) => [nameOfRecord(record), record.key, record.data]) : null],
     show: (place) => {

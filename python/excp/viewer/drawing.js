@@ -48,7 +48,7 @@ class Drawing {
     const x = this.view.middle(item.from);
     const y = middleOf(lane, item);
     const by = thing.by === null ? "" : `, by task ${thing.by}`;
-    const words = markInWords(thing) + (lane.owner === "task" ? ` on unit ${thing.unit}` : by);
+    const words = markInWords(thing) + (lane.owner === "task" ? `, on unit ${thing.unit}` : by);
     const width = plateWidth(words);
     const sign = SIGNS[thing.event.what]();
     sign.setAttribute("transform", `translate(${x} ${y}) scale(${Math.min(1, lane.rowHeight / MARK_ROW)})`);

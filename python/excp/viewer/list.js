@@ -13,7 +13,8 @@ class RequestList {
     this.heading = el("p", { class: "dim" });
     this.scroller.addEventListener("scroll", oncePerFrame(() => this.draw()), { passive: true });
     const all = button("Show these with their steps", "In the page itself, to search or print them", () => this.showPanels());
-    this.root = el("div", null, this.heading, this.scroller, el("p", { class: "all" }, all));
+    this.all = el("p", { class: "all" }, all);
+    this.root = el("div", null, this.heading, this.scroller, this.all);
   }
 
   filter() {
@@ -23,6 +24,7 @@ class RequestList {
     this.heading.textContent = this.requests.length === length ? all
       : `${counted(this.requests.length, "request")} of ${many(length)}.`;
     this.rows.style.height = `${this.requests.length * ROW}px`;
+    this.all.hidden = !this.requests.length;
     byId("panels").replaceChildren();
     this.draw();
   }

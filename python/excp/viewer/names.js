@@ -26,8 +26,9 @@ const STATUS = ["attention", "status modifier", "control unit end", "busy", "cha
   "unit exception", "program-controlled interruption", "incorrect length", "program check", "protection check",
   "channel data check", "channel control check", "interface control check", "chaining check"];
 
-const SENSE = new Map([[0x8000, "command reject"], [0x4000, "intervention required"], [0x1000, "equipment check"],
-  [0x0800, "data check"], [0x0040, "invalid track format"], [0x0008, "no record found"], [0x0004, "file protected"]]);
+const SENSE = new Map([[0x8000, "command reject"], [0x4000, "intervention required"], [0x2000, "bus-out check"],
+  [0x1000, "equipment check"], [0x0800, "data check"], [0x0400, "overrun"], [0x0040, "invalid track format"],
+  [0x0020, "end of cylinder"], [0x0008, "no record found"], [0x0004, "file protected"]]);
 
 const NORMAL_END = 0x0c00;
 const STATUS_MODIFIER = 0x4000;
@@ -97,7 +98,7 @@ const endInWords = (request) => (request.halted ? "halted" : CODES.get(request.c
 /** A purge, a close, a reset or an open in words. */
 function markInWords({ event }) {
   switch (event.what) {
-    case "purge": return `purge of ${"dcb_purged" in event ? `DCB ${event.dcb_purged}` : `task ${event.task_purged}`}, ${event.mode}`;
+    case "purge": return `purge of ${"dcb_purged" in event ? `DCB ${event.dcb_purged}` : `task ${event.task_purged}`} with ${event.mode}`;
     case "closed": return `close of DCB ${event.dcb}`;
     case "reset": return `reset of DCB ${event.dcb}`;
     default: return `open of DCB ${event.dcb} for ${event.way}`;

@@ -80,7 +80,9 @@ class Page {
     const order = this.model.run.order === "run" ? "Events are in the order in which they happened."
       : "Inside a unit, events are in the order in which they happened. Between units the run recorded no order: "
         + "the one shown keeps the waits of the job.";
-    return `${order} The axis counts events; it is no clock. Select a bar for its steps, a mark for what it ended. `
+    const hasDots = this.lanes.lanes.some(({ collects }) => collects.length);
+    const dots = hasDots ? " A dot is where a task can first have collected the post." : "";
+    return `${order}${dots} The axis counts events; it is no clock. Select a bar for its steps, a mark for what it ended. `
       + "When the lanes have the focus, arrow keys move, Enter opens, + and − zoom. Esc closes.";
   }
 

@@ -3,6 +3,8 @@
 /** The fields of the rows of an IOB: their lengths in bytes, and their names. */
 const IOB_ROWS = [[[1, 1, 2, 1, 3], "flags, sense, code, ECB"], [[1, 3, 1, 1, 2], "CSW"], [[1, 3, 1, 3], "program, DCB"],
   [[8], ""], [[1, 2, 2, 2, 1], "M BB CC HH R"]];
+/** The bytes of a row of what a request shows. */
+const SHOWN_ROW = 8;
 /** The most requests and the most starts that are named. */
 const MOST_NAMED = 40;
 const MOST_STARTS = 4;
@@ -38,7 +40,7 @@ function requestPanel(model, request) {
       el("div", { class: "program" }, paneOf(model, request, attempts), stepsOfAttempts(model, request, attempts)),
       part("IOB as posted", post ? iobOf(post) : el("p", { class: "dim" }, noPost)),
       request.code === "42" ? part("Extents of its DCB", extentsOf(model, request)) : null,
-      post?.shown ? part(`${counted(post.shown.length / 2, "byte")} shown`, hexOfBytes(post.shown)) : null,
+      post?.shown ? part(`${counted(post.shown.length / 2, "byte")} shown`, hexOfBytes(post.shown, false, SHOWN_ROW)) : null,
     ],
   };
 }

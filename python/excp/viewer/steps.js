@@ -73,7 +73,7 @@ function dataOf({ ccws }, { moved, way, address, bytes, more }) {
   if (moved === undefined) return "";
   const operand = ccws.find(({ image }) => image.slice(2, 8) === address)?.operand;
   const line = `${counted(moved, "byte")} ${way} ${address}${operand ? ` ${operand}` : ""}`;
-  return isHexadecimal(bytes) ? [line, hexOfBytes(bytes, more, STEP_BYTES)] : `${line}: ${bytes}`;
+  return isHexadecimal(bytes) ? [line, hexOfBytes(bytes, more, STEP_BYTES)] : `${line}: ${bytes}${more ? " …" : ""}`;
 }
 
 function statusOf(step) {
@@ -91,7 +91,7 @@ const isFailed = ({ rule, status, fault }) => Boolean(rule || bitsOf(status) & T
 function troubleOfStep({ rule, status, sense, fault }) {
   if (rule) return rule.text;
   const names = unusualStatus(bitsOf(status));
-  if (sense && sense !== "0000") names.push(`sense ${sense} ${senseNames(bitsOf(sense)).join(", ") || "nothing to tell"}`);
+  if (sense && sense !== "0000") names.push(`sense ${sense} ${senseNames(bitsOf(sense)).join(", ")}`.trim());
   if (fault) names.push(`fault ${fault} of the unit`);
   return names.join(", ");
 }
