@@ -2,6 +2,7 @@
 script and from the JSON."""
 
 from harness import require
+from pages import has_r0
 
 # The most changes of a unit that a page lists at once, and the bytes of each that it shows.
 LISTED = 60
@@ -57,7 +58,7 @@ def things_after(unit):
     things, counts = {}, {}
     for record in unit["medium"].get("records", ()):
         track = record["cylinder"], record["head"]
-        nth = counts[track] = counts[track] + 1 if track in counts else min(1, record["record"])
+        nth = counts[track] = counts[track] + 1 if track in counts else int(not has_r0(unit["medium"], track, [record]))
         identifier = record.get("id", f"{track[0]:04X}{track[1]:04X}{record['record']:02X}")
         things[f"r{unit['unit']}-{track[0]}-{track[1]}-{nth}"] = identifier, [record["key"], record["data"]]
     for number, item in enumerate(unit["medium"].get("items", ()), 1):

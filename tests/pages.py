@@ -53,12 +53,24 @@ class Page(HTMLParser):
             parts.append(data)
 
     def run(self):
-        """The run, of both parts of its JSON."""
+        """The run, of both parts of its JSON, as `--json` has it."""
+        return {name: value for name, value in self.members().items() if name != "further_r0"}
+
+    def members(self):
         return {**json.loads(self.texts["front"]), **json.loads(self.texts["rest"])}
 
     def facts(self):
-        """The run, and as `job` what the page has of the script."""
-        return {**self.run(), "job": json.loads(self.texts["job"])}
+        """The run, and what a page alone has: as `job` what the script says, and as `further_r0` of each medium the tracks whose first
+        record in the JSON is a further record 0."""
+        facts = {**self.members(), "job": json.loads(self.texts["job"])}
+        for unit, tracks in zip(facts["units"], facts["further_r0"], strict=True):
+            unit["medium"]["further_r0"] = tracks
+        return facts
+
+
+def has_r0(medium, track, records):
+    """Whether the first one of the records of a track in the JSON is its R0."""
+    return bool(records) and records[0]["record"] == 0 and list(track) not in medium["further_r0"]
 
 
 def digest(text):
@@ -314,7 +326,7 @@ def place_on(unit, step, place):
         return {f"l{number}-{page}-{line}": text} if line <= drawn else {}
     where = place["cylinder"], place["head"]
     track = [it for it in medium["records"] if (it["cylinder"], it["head"]) == where]
-    first = 0 if track and track[0]["record"] == 0 else 1
+    first = 0 if has_r0(medium, where, track) else 1
     record = next(iter(track[place["nth"] - first :]), None) if place["nth"] >= first else {"record": 0, "key": "", "data": "00" * 8}
     if not record or any(record.get(what, other) != place.get(what, other) for what, other in (("record", 0), ("id", None), ("key", ""))):
         return {}

@@ -568,8 +568,8 @@ COMPARED = """(() => {
   const {right} = panel.querySelector('.content').getBoundingClientRect();
   const rights = [...panel.querySelectorAll('.content *')].map(it => it.getBoundingClientRect().right);
   const wide = [panel, ...panel.querySelectorAll('.wide-table, .compare')].map(it => it.scrollWidth - it.clientWidth);
-  const rows = [...panel.querySelectorAll('.compare tr')];
-  return [panel.querySelector('.compare p').textContent, rows.map(row => [...row.querySelectorAll('mark')].map(it => it.textContent).join('')),
+  const marks = [...panel.querySelectorAll('.compare tr')].map(row => [...row.querySelectorAll('mark')].map(it => it.textContent).join(''));
+  return [panel.querySelector('.compare p').textContent, marks,
     Math.round(Math.max(0, ...wide, ...rights.map(it => it - right)))];
 })()"""
 
@@ -581,7 +581,8 @@ def compares_what_it_knows(setup):
     blanks = "SYS1.LINKLIB".encode("cp037").ljust(16, b"\x40")
     differing = ["".join(f"{one:02X}" for one, other in zip(key, wanted) if one != other) for key in (old, blanks)]
     key = f"Looked for key {pages.grouped(wanted.hex().upper())} |SYS1.LINKLIB.NEW| … on track 0 0, passed 4 records, found none."
-    expected = [(key, differing), ("Looked for key E2 |S| … on track 0 0, passed 4", ["", ""]), ("Looked on track 0 0, passed 6", ["", "", ""])]
+    chained = "Looked for key E2 |S| … on track 0 0, passed 4 records, found none."
+    expected = [(key, differing), (chained, ["", ""]), ("Looked on track 0 0, passed 6 records", ["", "", ""])]
     with tempfile.TemporaryDirectory() as folder, browser.Browser() as it:
         file = written(folder, page_of(setup, "report", "--html", script=SEARCHES))
         for number, (words, marks) in enumerate(expected, 1):
@@ -681,7 +682,8 @@ def says_it_well(setup):
         '[data-request="q0-0-4"] .cells': ["✕ RD"],
     }
     panels = {1: ["24 bytes to 0010AD BUFFER: skipped …"], 2: ["unit check, sense 0200, fault 1"],
-              3: ["unit check, sense 2420 bus-out check, overrun, end of cylinder, fault 2"], 4: ["program check at 0010A0 RD 060010AD 00000000: the count is zero"]}
+              3: ["unit check, sense 2420 bus-out check, overrun, end of cylinder, fault 2"],
+              4: ["program check at 0010A0 RD 060010AD 00000000: the count is zero"]}
     with tempfile.TemporaryDirectory() as folder, browser.Browser() as it:
         file = written(folder, page_of(setup, "report", "--html", script=WORDS))
         it.open(file, "#unit0")
@@ -722,6 +724,52 @@ def leads_to_what_was_there(setup):
         shows_its_facts(it, written(folder, text), run_of_page)
         require(it.value(OUTSIDE) == 0, "a dot is in no wait")
         changes.check_changes(GONE, run_of_page, it.value(changes.CHANGES))
+
+
+# A further record 0 after the R0 of a track, in a job that reads it. The R0 of the other track changes.
+FURTHER_R0 = """tasks 1
+disk 0 0 1 2 300
+rec 0 0 0 1 - C1C2C3C4
+rec 0 0 1 1 - C1C2C3C4
+open 0 out all
+area 0
+A:     IOB ecb=ECB start=CP dcb=1
+B:     IOB ecb=ECB start=CP2 dcb=1 seek=0,1,0
+ECB:   ECB
+CP:    SIDE ID,5,CC
+       TIC CP
+       WCKD ZERO,12,CC
+       WCKD FIVE,12,CC
+       RD BUFFER,4,SLI
+CP2:   SIDE ID2,5,CC
+       TIC CP2
+       WD ZERO,8
+ID:    CCHHR 0,0,0
+ID2:   CCHHR 0,1,0
+ZERO:  COUNT 0,0,0,0,4
+       DC C'ZERO'
+FIVE:  COUNT 0,0,5,0,4
+       DC C'FIVE'
+BUFFER: DS 4
+endarea
+excp 0 0 1 A 0 BUFFER 4
+excp 0 0 1 B 0 BUFFER 4
+"""
+
+
+def tells_record_0_apart(setup):
+    """A further record 0 is not drawn as the R0 that the JSON leaves out; one that changed is."""
+    plain = setup.run("assemble", script=FURTHER_R0)
+    require(plain.status == 0, "the job is not assembled", plain)
+    with tempfile.TemporaryDirectory() as folder, browser.Browser() as it:
+        text = page_of(setup, "report", "--html", script=plain.out)
+        run_of_page = pages.Page(text).facts()
+        require(run_of_page["further_r0"] == [[[0, 0]]], f"further records 0 are at {run_of_page['further_r0']}")
+        shows_its_facts(it, written(folder, text), run_of_page)
+        changes.check_changes(plain.out, run_of_page, it.value(changes.CHANGES))
+        tracks = it.value("[...document.querySelectorAll('.track')].map(it => it.getAttribute('aria-label'))")
+        drawn = [track.split(",")[0] for track in tracks[-2:]]
+        require(drawn == ["Track 0 0: 3 records", "Track 0 1: 2 records"], f"the tracks are {tracks}")
 
 
 def notices(setup):
@@ -803,6 +851,7 @@ def cases(setup):
         part = all_sheets[at : at + SHEAF]
         yield Case(f"in a browser, from {part[0][0]}", lambda p=part: opened(setup, p), f"{ORIGIN}, and Chromium")
     yield Case("in a browser, records that are gone", lambda: leads_to_what_was_there(setup), ORIGIN)
+    yield Case("in a browser, a further record 0", lambda: tells_record_0_apart(setup), ORIGIN)
     yield Case("in a browser, blanks and hints", lambda: keeps_blanks_and_hides_hints(setup), ORIGIN)
     yield Case("in a browser, the filter of programs", lambda: filters_its_programs(setup), ORIGIN)
     yield Case("in a browser, a panel", lambda: docks_its_panel(setup), ORIGIN)

@@ -4,7 +4,7 @@ from __future__ import annotations
 
 import re
 from itertools import chain
-from typing import AbstractSet, Callable, FrozenSet, Iterable, Iterator, Mapping, Tuple
+from typing import AbstractSet, Callable, FrozenSet, Iterable, Iterator, List, Mapping, Tuple
 
 from ..device_commands import DISK, PRINTER, TAPE
 from ..images.ebcdic import seen
@@ -30,20 +30,44 @@ def touched_parts(places: Iterable[str]) -> FrozenSet[str]:
     return frozenset(part[0] for part in found if part is not None)
 
 
-def medium_json(record: Record, device: str, touched: AbstractSet[str]) -> Iterator[str]:
+# The cylinder and the head of a track.
+Track = Tuple[int, int]
+
+
+def medium_json(
+    record: Record, device: str, touched: AbstractSet[str], further_r0: List[Track]
+) -> Iterator[str]:
     """The medium of a kind of device, which a record has next, in pieces; of a large one the
-    touched parts. Raises NotKept."""
+    touched parts. Raises NotKept. Adds the tracks whose first record in the JSON is a further
+    record 0: R0 itself is as mounting makes it, so the JSON leaves it out."""
+    if device == DISK:
+        return _disk(record, touched, further_r0)
     return _JSON[device](record, touched)
 
 
-def _disk(record: Record, touched: AbstractSet[str]) -> Iterator[str]:
+def _disk(
+    record: Record, touched: AbstractSet[str], further_r0: List[Track]
+) -> Iterator[str]:
     size = members(record.take())
     held, is_whole = _held(record, "record", _record_bytes)
     sizes = f'"cylinders":{size["cylinders"]},"heads":{size["heads"]},"bytes":{size["bytes"]}'
     yield f'{{"whole":{truth(is_whole)},{sizes},"records":['
     lines = chain(held, record.all_of("record"))
-    yield from joined(_record(it) for it in lines if is_whole or _track_of(it) in touched)
+    wanted = (it for it in lines if is_whole or _track_of(it) in touched)
+    yield from joined(map(_record, _noted(wanted, further_r0)))
     yield "]}"
+
+
+def _noted(lines: Iterable[str], further_r0: List[Track]) -> Iterator[str]:
+    """The lines of records. Adds the tracks whose first line is of a further record 0."""
+    track = ""
+    for line in lines:
+        if _track_of(line) != track:
+            track = _track_of(line)
+            it = members(line)
+            if it["nth"] and it["id"].endswith("00"):
+                further_r0.append((it["cylinder"], it["head"]))
+        yield line
 
 
 def _record(line: str) -> str:
@@ -127,7 +151,6 @@ def _held(
 
 
 _JSON: Mapping[str, Callable[[Record, AbstractSet[str]], Iterator[str]]] = {
-    DISK: _disk,
     TAPE: _tape,
     PRINTER: _printer,
 }

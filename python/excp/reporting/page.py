@@ -13,6 +13,7 @@ import html
 import re
 import unicodedata
 from dataclasses import dataclass
+from itertools import chain
 from pathlib import Path
 from typing import Callable, Iterable, Iterator, List, Mapping
 
@@ -54,7 +55,7 @@ def page_report(record: Record, about: About, most: int) -> Iterator[str]:
     # reads them
     parts: Mapping[str, Callable[[], Iterable[str]]] = {
         "title": lambda: [_escaped(about.title)],
-        "front": lambda: map(_without_tags, run.front()),
+        "front": lambda: map(_without_tags, chain(run.front(), [run.further_r0()])),
         "posts": run.posts,
         "rest": lambda: map(_without_tags, run.back()),
         "job": lambda: map(_without_tags, about.job()),

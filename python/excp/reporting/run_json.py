@@ -73,6 +73,12 @@ class RunJson:
             for other in others:
                 yield f'"column":{next(columns)},{other}'
 
+    def further_r0(self) -> str:
+        """A member for a page alone: of each unit the tracks whose first record in the JSON is a
+        further record 0."""
+        lists = ([list(track) for track in tracks] for tracks in self._run.further_r0)
+        return f',\n"further_r0":{list(lists)}'
+
     def back(self) -> Iterator[str]:
         """The lists of steps and the posts, and the last brace."""
         yield '\n"steps":['

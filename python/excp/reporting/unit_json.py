@@ -7,7 +7,7 @@ from functools import lru_cache
 from typing import FrozenSet, Iterator, List, Set, Tuple
 
 from .json_texts import joined
-from .medium_json import medium_json, touched_parts
+from .medium_json import Track, medium_json, touched_parts
 from .order import UnitEvents
 from .record import CONTROLS, EVENTS, Members, Record, members
 from .step import Step, step_of
@@ -24,13 +24,16 @@ _WHAT = '{"what":"unit",'
 @dataclass
 class RunSoFar:
     """What is known of a run when the record has its units next. `most` is how many commands of
-    each unit are wanted. The lists of steps and the events of units are added here."""
+    each unit are wanted. The lists of steps, the events of units and what is known of their tracks
+    are added here."""
 
     tasks: Tasks
     has_order: bool
     most: int
     lists: StepLists
     units: List[UnitEvents] = field(default_factory=list)
+    # of each unit the tracks whose first record in the JSON is a further record 0
+    further_r0: List[List[Track]] = field(default_factory=list)
 
 
 def unit_json(record: Record, run: RunSoFar) -> Iterator[str]:
@@ -53,9 +56,11 @@ class _Unit:
         yield f'\n{{{self._line[len(_WHAT) : -1]},"events":['
         yield from joined(self._event_pieces())
         yield '\n],"medium":'
+        further_r0: List[Track] = []
         if self._record.what == "medium":
-            yield from medium_json(self._record, self._device, self._touched)
+            yield from medium_json(self._record, self._device, self._touched, further_r0)
         yield "}"
+        self._run.further_r0.append(further_r0)
         self._run.units.append(self._events)
 
     def _event_pieces(self) -> Iterator[str]:

@@ -14,9 +14,10 @@ const homeOf = (cylinder, head) => hexOf(cylinder, 4) + hexOf(head, 4);
 /** The records of a track by their place on it, with the R0 that the JSON leaves out if it is as mounting makes it. */
 function recordsOf(medium, { cylinder, head }) {
   const home = homeOf(cylinder, head);
-  const list = (tracksOf(medium).get(cylinder * medium.heads + head)?.stored ?? [])
+  const number = cylinder * medium.heads + head;
+  const list = (tracksOf(medium).get(number)?.stored ?? [])
     .map((record) => ({ ...record, id: record.id ?? home + hexOf(record.record, 2) }));
-  if (list[0]?.record === 0) return list;
+  if (list[0]?.record === 0 && !medium.furtherR0?.has(number)) return list;
   return [{ cylinder, head, record: 0, id: `${home}00`, key: "", data: "0".repeat(16), isMounted: true }, ...list];
 }
 

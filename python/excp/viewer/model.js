@@ -46,7 +46,10 @@ function indexOf(run, readRest, readJob) {
     /** Moments by unit and entry: `moments[unit].get(entry)`. */
     moments: run.units.map(() => new Map()),
   };
-  for (const unit of run.units) addEvents(model, unit);
+  run.units.forEach((unit, place) => {
+    unit.medium.furtherR0 = new Set(run.further_r0[place].map(([cylinder, head]) => cylinder * unit.medium.heads + head));
+    addEvents(model, unit);
+  });
   model.length = giveColumns(model);
   orderByArrival(model);
   for (const request of model.requests) linkDoom(model, request);
