@@ -70,8 +70,10 @@ CLOSED = "its DCB was closed"
 NOT_OPEN = "its DCB is not open"
 ERROR = "a related request ended in error"
 
-# A post in a history: the request, its completion code, and the reason where it was not started.
-POST = re.compile(r"task (\d+ request \d+) posted (..), CSW .{16}, sense .{4}(?:, not started: (.*))?")
+# A post in a history: the request, its completion code, and the reason where it was not started. tests/groups/random.py judges words
+# on status and sense, and on ends after a start.
+POST = re.compile(r"task (\d+ request \d+) posted (..), CSW .{16}, sense .{4}(?:: .*?)?"
+                  r"(?:, halted|, not tried again: purged|, not started: (.*))?")
 
 # A history, of no run, with each of them.
 DOOMS = f"""# unit 0: disk, 25 entries

@@ -19,6 +19,7 @@ import re
 import tempfile
 from dataclasses import dataclass, field
 
+import reports
 from groups.outcomes import every_outcome, is_among, posts_in
 from harness import Case, Failed, expect, expect_text
 
@@ -250,6 +251,14 @@ class Report:
 
 POST = re.compile(r"post (\d+) (\d+) (\d+) (..) (.{6}) (.{4}) (.{4}) (.{4}) (.*)")
 
+# The lines of a disk, its record and the text of that.
+LINES = 3
+
+
+def printed_media():
+    """The media, which no job changes, with the text of each record."""
+    return [line for it in media() for line in ([it, "# data       |ABCD|"] if it.startswith("rec ") else [it])]
+
 
 def read_report(text, job):
     """Parts the report of a job; after the histories are the disks, as they were."""
@@ -263,14 +272,14 @@ def read_report(text, job):
     for line in lines[count + 1 : -1]:
         if told := re.fullmatch(r"# unit (\d+): disk, (\d+) entries", line):
             require(at == last + 1 and int(told[1]) == len(entries), "another unit, or an entry is lost")
-            require(left == media()[: 2 * len(entries)], "other media")
+            require(left == printed_media()[: LINES * len(entries)], "other media")
             entries[len(entries)], at, last = [], 1, int(told[2])
-        elif entries and line.startswith(f"# {at:5} ") and not left[2 * len(entries) - 2 :]:
+        elif entries and line.startswith(f"# {at:5} ") and not left[LINES * len(entries) - LINES :]:
             entries[len(entries) - 1].append(line[8:])
             at += int(more[1]) if (more := re.search(r" ran \d+ commands in (\d+) turns$", line)) else 1
         else:
             left.append(line)
-    require(at == last + 1 and len(entries) == 3 and left == media(), "an entry is lost, or other media")
+    require(at == last + 1 and len(entries) == 3 and left == printed_media(), "an entry is lost, or other media")
     return Report([it.groups() for it in posts], entries)
 
 
@@ -309,6 +318,16 @@ class Attempt:
             return self.request.failed_at(self.ran, "41")
         return self.request.own_end()
 
+    def reason(self):
+        """Why it is posted 48, if it is."""
+        return "halted" if self.halted else "not tried again: purged" if self.meets_retry() else None
+
+
+def words_of(status, sense):
+    """The words on status and sense of a post that is no normal end."""
+    names = reports.names(int(status, 16), reports.STATUS) + reports.names(int(sense, 16), reports.SENSE)
+    return f": {names.removeprefix(', ')}" if names else ""
+
 
 class Course:
     """What the entries of a unit so far leave: the requests that wait, in order of arrival, why some are not to be started,
@@ -327,7 +346,7 @@ class Course:
 
     def judge_due(self, entry):
         """What is due comes next: the halt of a program, and then the posts of what is doomed, in order of arrival."""
-        if self.is_to_halt or entry.endswith(" halted"):
+        if self.is_to_halt or re.fullmatch(self.NAME + " halted", entry):
             require(self.is_to_halt and entry == f"task {self.active.request.name} halted", "a halt too many, or none")
             return
         due = next((name for name in self.waiting if name in self.why), None)
@@ -422,23 +441,24 @@ class Course:
         require(number == "1", "another reset")
         self.flagged.discard(1)
 
-    def post(self, name, code, address, status, residual, sense, why):
+    def post(self, name, code, address, status, residual, sense, words, why):
         """A post: of the active request, as its last attempt came to its end; or of one that was never started, because it
         is doomed, or because it comes next and is outside its extents."""
         end, request, active = (code, address, status, residual, sense), self.request(name), self.active
+        require((words or "") == words_of(status, sense), "other words")
         if active and active.request == request:
             require(not active.runs() and not active.is_to_restart(), "posted before its end")
-            require(end == active.end() and why is None, "another end")
+            require(end == active.end() and why == active.reason(), "another end")
             if active.meets_retry():
                 self.met.add("purge of what awaits its restart")
             self.active = None
         else:
             require(name in self.waiting, "posted twice")
             if due := self.why.pop(name, None):
-                require(end == NEVER_STARTED and why == due, "another reason")
+                require(end == NEVER_STARTED and why == f"not started: {due}", "another reason")
             else:
                 require(active is None and self.waiting[0] == name and request.program.outside, "posted without a start")
-                require(end == VIOLATED and why == OUTSIDE, "another reason")
+                require(end == VIOLATED and why == f"not started: {OUTSIDE}", "another reason")
             self.waiting.remove(name)
         self.ends[name] = end
         if request.related and code in ("41", "42"):
@@ -456,7 +476,8 @@ class Course:
         (r"purge of (DCB|task) (\d+) with (halt|quiesce), (.*)", purge),
         (r"DCB (\d+) closed", close),
         (r"DCB (\d+) reset", reset),
-        (NAME + r" posted (..), CSW (.{6}) (.{4}) (.{4}), sense (.{4})(?:, not started: (.*))?", post),
+        (NAME + r" posted (..), CSW (.{6}) (.{4}) (.{4}), sense (.{4})(: .*?)?"
+         r"(?:, (halted|not tried again: purged|not started: .*))?", post),
     ]
 
 
