@@ -24,8 +24,9 @@ MORE = 60
 PAUSE = 0.003
 STOPS = 0.001, 0.001, 0.005, 0.03
 
-# The seconds from one look at a thread that is to stop to the next.
+# The seconds from one look at a thread that is to stop to the next, and those that it has for it at the end of a run's time.
 LOOK = 0.0001
+GRACE = 5
 
 # Requests of linux/ptrace.h, and __WALL of linux/wait.h.
 SEIZE, INTERRUPT, DETACH = 0x4206, 0x4207, 17
@@ -135,7 +136,7 @@ def ended_by(pid, seconds, chance=None):
         time.sleep(chance.uniform(0, PAUSE) if chance else PAUSE)
         threads = threads_of(pid) if chance else []
         if threads:
-            status = stopped_for(pid, chance.choice(threads), chance.uniform(0, chance.choice(STOPS)), until)
+            status = stopped_for(pid, chance.choice(threads), chance.uniform(0, chance.choice(STOPS)), until + GRACE)
             if status is not None:
                 return status
     return None
