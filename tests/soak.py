@@ -7,6 +7,7 @@ four has one processor. A run that does not end in time tells of its threads bef
 import contextlib
 import ctypes
 import os
+import pathlib
 import random
 import shutil
 import signal
@@ -14,7 +15,8 @@ import subprocess
 import time
 from dataclasses import dataclass
 
-from harness import Failed, Ran, decoded, require
+import counts
+from harness import Failed, Ran, Skipped, decoded, require
 
 # The seconds after which a run tells of itself, and those that it then has to end: a busy machine may be slow.
 SECONDS = 60
@@ -28,8 +30,9 @@ STOPS = 0.001, 0.001, 0.005, 0.03
 LOOK = 0.0001
 GRACE = 5
 
-# Requests of linux/ptrace.h, and __WALL of linux/wait.h.
-SEIZE, INTERRUPT, DETACH = 0x4206, 0x4207, 17
+# Requests of linux/ptrace.h, its option and event of a new thread, and __WALL of linux/wait.h.
+SEIZE, INTERRUPT, DETACH, EVENT_OF = 0x4206, 0x4207, 17, 0x4201
+THREADS, NEW_THREAD = 1 << 3, signal.SIGTRAP | 3 << 8
 ALL_THREADS = 0x40000000
 
 LIBC = ctypes.CDLL(None, use_errno=True)
@@ -69,23 +72,33 @@ SHAPES = {
 }
 
 
+def set_up(tasks, subclasses, programs):
+    """The lines of a script before its commands: tasks, a disk for each of these subclasses, and an area for each program."""
+    lines = [f"tasks {tasks}"]
+    for unit, subclass in enumerate(subclasses):
+        lines += [f"disk {unit} {subclass} 1 1 40", f"rec {unit} 0 0 1 - C1C2C3C4", f"open {unit} out {EXTENT}"]
+    for number, words in enumerate(programs):
+        lines.append(f"area {number} 001000 {IOB}{words.ljust(0x9D0 * 2, '0')}0000000001000000{'0' * 16}")
+    return lines
+
+
+def excp(task, unit, area):
+    """The command by which a task issues a request with an area to a unit."""
+    return f"excp {task} {unit} 1 001000 {area} 001A08 4"
+
+
 def script_of(shape, seed):
     """A script of this shape, and the names of its requests: task, unit and number."""
     chance = random.Random(seed)
-    lines = [f"tasks {shape.tasks}"]
-    for unit in range(shape.units):
-        lines += [f"disk {unit} {0 if shape.one_subclass else unit % 8} 1 1 40", f"rec {unit} 0 0 1 - C1C2C3C4"]
-        lines += [f"open {unit} out {EXTENT}"]
     program = NO_OPERATION * chance.randint(0, shape.no_operations) + "0300000000000001"
-    for number, words in enumerate((READ, program)):
-        lines.append(f"area {number} 001000 {IOB}{words.ljust(0x9D0 * 2, '0')}0000000001000000{'0' * 16}")
+    lines = set_up(shape.tasks, [0 if shape.one_subclass else unit % 8 for unit in range(shape.units)], (READ, program))
     numbers, commands = {}, []
     for task in range(shape.tasks):
         for _ in range(shape.requests):
             unit = chance.randrange(shape.units)
             numbers[task, unit] = numbers.get((task, unit), 0) + 1
             area = chance.randrange(2) if shape.no_operations else 0
-            commands.append(f"excp {task} {unit} 1 001000 {area} 001A08 4")
+            commands.append(excp(task, unit, area))
             if chance.random() < shape.purges:
                 commands.append(f"purge {task} {unit} 1 halt")
             if chance.random() < shape.waits:
@@ -118,6 +131,24 @@ def stopped_for(pid, thread, seconds, until):
     return None
 
 
+@contextlib.contextmanager
+def first_thread_held(pid, begin):
+    """Lets a run begin by this call, and stops the first thread that it makes, from its first instruction to the end of the block."""
+    if LIBC.ptrace(SEIZE, pid, None, THREADS) != 0:
+        raise Skipped("threads cannot be stopped: ptrace is not allowed")
+    begin()
+    _, status = os.waitpid(pid, ALL_THREADS)
+    require(status >> 8 == NEW_THREAD, f"no thread is made: status {status}")
+    thread = ctypes.c_ulong()
+    LIBC.ptrace(EVENT_OF, pid, None, ctypes.addressof(thread))
+    os.waitpid(thread.value, ALL_THREADS)
+    LIBC.ptrace(DETACH, pid, None, None)
+    try:
+        yield
+    finally:
+        LIBC.ptrace(DETACH, thread.value, None, None)
+
+
 def threads_of(pid):
     """The threads of a run that are there."""
     try:
@@ -143,8 +174,7 @@ def ended_by(pid, seconds, chance=None):
 
 
 def told(pid):
-    """Of each thread of a run its state, what it waits for and its processor time, by /proc; and its calls, by gdb if it is there.
-    gdb keeps the memory of the run in a file as well: the program has no lines that name the counts of a unit or a task."""
+    """Of each thread of a run its state, what it waits for and its processor time, by /proc; of each unit and task its counts."""
     texts = []
     for thread in threads_of(pid):
         texts.append(f"thread {thread}")
@@ -154,13 +184,23 @@ def told(pid):
                     texts.append(f"{name}: {it.read().rstrip()}")
             except OSError as error:
                 texts.append(f"{name}: {error}")
-    return "\n".join([*texts, ""])
+    return "\n".join([*texts, counts.told(pid)])
+
+
+def is_held(pid):
+    """Whether a thread of a run is stopped by ptrace."""
+    with contextlib.suppress(OSError):
+        stats = [pathlib.Path(f"/proc/{pid}/task/{it}/stat").read_text(encoding="utf-8") for it in threads_of(pid)]
+        return any(") t " in it for it in stats)
+    return False
 
 
 def debugged(pid, core):
-    """What gdb says of the threads of a run, whose memory it writes to a file."""
+    """The calls of the threads of a run, by gdb if it is there, which also writes the memory of the run to a file."""
     if not shutil.which("gdb"):
         return "gdb is missing: no calls, no memory\n"
+    if is_held(pid):
+        return "gdb would wait for a thread that a test holds up: no calls, no memory\n"
     words = ["gdb", "-p", str(pid), "-batch", "-nx", "-ex", "info threads", "-ex", "thread apply all bt 20", "-ex", f"gcore {core}"]
     with contextlib.suppress(subprocess.TimeoutExpired):
         return decoded(subprocess.run(words, capture_output=True, timeout=SECONDS, check=False).stdout)
