@@ -1,4 +1,4 @@
--- The grammar of a script, how far a script is read, and what its commands name.
+-- The grammar of a script, how far a script is read, what its commands name, and the statuses of faults.
 pub mod Adding
 pub mod Commands
 pub mod Forms
@@ -9,6 +9,7 @@ pub mod Outcomes
 pub mod Reading
 pub mod Runs
 pub mod Said
+pub mod Statuses
 pub mod Steps
 pub mod Tasks
 pub mod Verbs

@@ -1,6 +1,7 @@
 //! What ends a run: the faults of a script, with their names, texts and exit statuses.
 
 ghost use Rattle.std.specs.Prelude.{◌≡◌};
+ghost use Rattle.job_script.specs.Statuses.{exit_status};
 ghost use Rattle.job_script.specs.declared.fault.JobError.TheVariants as faults;
 
 use std::alloc::{AllocError, AllocFailed};
@@ -70,7 +71,9 @@ pub enum JobError {
 
 impl JobError {
     /// The exit status of the program: 3 if memory or a thread is lacking, else 1.
-    pub fn status(self) -> u8 {
+    pub fn status(self) -> u8
+        ensures { result ≡ exit_status self }
+    {
         match self {
             JobError::NoMemory | JobError::NoThread => 3,
             _ => 1,

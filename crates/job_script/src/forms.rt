@@ -40,7 +40,7 @@ pub fn has_least(line: &Words<'_>, count: usize) -> Result<(), FaultName>
 
 /// Reads a decimal number of 1 to 10 digits.
 #[inline(always)]
-pub fn number(line: &Words<'_>, place: usize) -> Result<u64, FaultName>
+pub(crate) fn number(line: &Words<'_>, place: usize) -> Result<u64, FaultName>
     requires { place < 8 }
     ensures { Reads result (number (word place (words_in line.now))) }
 {
@@ -76,7 +76,7 @@ pub fn index(line: &Words<'_>, place: usize) -> Result<u16, FaultName>
 
 /// Reads an interruption subclass, 0 to 7.
 #[inline(always)]
-pub fn subclass(line: &Words<'_>, place: usize) -> Result<u8, FaultName>
+pub(crate) fn subclass(line: &Words<'_>, place: usize) -> Result<u8, FaultName>
     requires { place < 8 }
     ensures value { Reads result (subclass (word place (words_in line.now))) }
     ensures high { IfOk result (λ n. n ≤ 7) }
@@ -87,7 +87,7 @@ pub fn subclass(line: &Words<'_>, place: usize) -> Result<u8, FaultName>
 
 /// Reads a number of 16 bits.
 #[inline(always)]
-pub fn halfword(line: &Words<'_>, place: usize) -> Result<u16, FaultName>
+pub(crate) fn halfword(line: &Words<'_>, place: usize) -> Result<u16, FaultName>
     requires { place < 8 }
     ensures { Reads result (number_in 0 65535 (word place (words_in line.now))) }
 {
@@ -96,7 +96,7 @@ pub fn halfword(line: &Words<'_>, place: usize) -> Result<u16, FaultName>
 
 /// Reads a number of 8 bits.
 #[inline(always)]
-pub fn small_number(line: &Words<'_>, place: usize) -> Result<u8, FaultName>
+pub(crate) fn small_number(line: &Words<'_>, place: usize) -> Result<u8, FaultName>
     requires { place < 8 }
     ensures { Reads result (number_in 0 255 (word place (words_in line.now))) }
 {
@@ -106,7 +106,7 @@ pub fn small_number(line: &Words<'_>, place: usize) -> Result<u8, FaultName>
 
 /// Reads an address of 6 hexadecimal digits.
 #[inline(always)]
-pub fn address(line: &Words<'_>, place: usize) -> Result<u32, FaultName>
+pub(crate) fn address(line: &Words<'_>, place: usize) -> Result<u32, FaultName>
     requires { place < 8 }
     ensures { Reads result (address (word place (words_in line.now))) }
 {
@@ -118,7 +118,7 @@ pub fn address(line: &Words<'_>, place: usize) -> Result<u32, FaultName>
 
 /// Reads a byte of 2 hexadecimal digits.
 #[inline(always)]
-pub fn byte(line: &Words<'_>, place: usize) -> Result<u8, FaultName>
+pub(crate) fn byte(line: &Words<'_>, place: usize) -> Result<u8, FaultName>
     requires { place < 8 }
     ensures { Reads result (digits 2 (word place (words_in line.now))) }
 {
@@ -130,7 +130,7 @@ pub fn byte(line: &Words<'_>, place: usize) -> Result<u8, FaultName>
 
 /// Reads two bytes of 4 hexadecimal digits.
 #[inline(always)]
-pub fn two_bytes(line: &Words<'_>, place: usize) -> Result<u16, FaultName>
+pub(crate) fn two_bytes(line: &Words<'_>, place: usize) -> Result<u16, FaultName>
     requires { place < 8 }
     ensures { Reads result (digits 4 (word place (words_in line.now))) }
 {
@@ -142,7 +142,7 @@ pub fn two_bytes(line: &Words<'_>, place: usize) -> Result<u16, FaultName>
 
 /// Reads bytes as an even number of hexadecimal digits, or `-` for no byte.
 #[inline(always)]
-pub fn bytes(alloc: Global, line: &Words<'_>, place: usize) -> Result<Vec<u8>, Refusal>
+pub(crate) fn bytes(alloc: Global, line: &Words<'_>, place: usize) -> Result<Vec<u8>, Refusal>
     requires { place < 8 }
     ensures { Returns (λ v. v.items) result (bytes (word place (words_in line.now))) }
 {
@@ -164,7 +164,7 @@ fn no_bytes(error: FormError) -> Refusal
 }
 
 /// Reads the bytes of the words after the first three, joined.
-pub fn joined_bytes(alloc: Global, line: &Words<'_>) -> Result<Vec<u8>, Refusal>
+pub(crate) fn joined_bytes(alloc: Global, line: &Words<'_>) -> Result<Vec<u8>, Refusal>
     ensures { Returns (λ v. v.items) result (joined_bytes (drop 3 (words_in line.now))) }
 {
     let mut bytes = Vec::with_capacity(alloc, line.line.len() / 2)?;
@@ -179,7 +179,7 @@ pub fn joined_bytes(alloc: Global, line: &Words<'_>) -> Result<Vec<u8>, Refusal>
 }
 
 /// Reads an extent from each word after the first three.
-pub fn extents(alloc: Global, line: &Words<'_>) -> Result<Vec<Extent>, Refusal>
+pub(crate) fn extents(alloc: Global, line: &Words<'_>) -> Result<Vec<Extent>, Refusal>
     ensures { Returns (λ v. v.items) result (extents (drop 3 (words_in line.now))) }
 {
     let mut extents = Vec::new(alloc);
@@ -205,7 +205,7 @@ fn extent(word: &[u8]) -> Option<Extent>
 /// Reads the number of a unit and of one of its DCBs, at least 1.
 #[inline(always)]
 #[tactic(auto, unfolding(crate::specs::Forms::dcb_name))]
-pub fn dcb_of(line: &Words<'_>, unit: usize, dcb: usize) -> Result<DcbName, FaultName>
+pub(crate) fn dcb_of(line: &Words<'_>, unit: usize, dcb: usize) -> Result<DcbName, FaultName>
     requires unit { unit < 8 }
     requires dcb { dcb < 8 }
     ensures { Reads result (dcb_name (word unit (words_in line.now)) (word dcb (words_in line.now))) }
@@ -218,7 +218,7 @@ pub fn dcb_of(line: &Words<'_>, unit: usize, dcb: usize) -> Result<DcbName, Faul
 /// Reads `in` or `out`: what a DCB is opened for.
 #[inline(always)]
 #[tactic(auto, unfolding(crate::specs::Forms::method_of))]
-pub fn method_of(line: &Words<'_>, place: usize) -> Result<ProcessingMethod, FaultName>
+pub(crate) fn method_of(line: &Words<'_>, place: usize) -> Result<ProcessingMethod, FaultName>
     requires { place < 8 }
     ensures { Reads result (method_of (word place (words_in line.now))) }
 {
@@ -251,7 +251,7 @@ pub fn mode_of(line: &Words<'_>, place: usize) -> Result<Mode, FaultName>
 
 /// Whether a word begins with `#`.
 #[inline(always)]
-pub fn is_comment(word: &[u8]) -> bool
+pub(crate) fn is_comment(word: &[u8]) -> bool
     ensures { result ≡ is_comment word.now }
 {
     match word {

@@ -18,7 +18,7 @@ mod set_up;
 
 pub use command::{Action, Command, DcbName, Excp};
 pub use fault::{FaultName, JobError};
-pub use line::{AreaLine, ExcpLine, Line, SetUpLine, SetUpVerb, TasksLine, UnitLine, Verb};
+pub use line::{AreaLine, ExcpLine, Line, SetUpLine, TasksLine, UnitLine};
 pub use reading::{LIMIT, read_script};
 pub use refusal::Refusal;
 pub use runs::worked_runs;

@@ -8,7 +8,6 @@ mod verb;
 
 ghost use Rattle.std.specs.Prelude.{◌≡◌, ◌≤◌, ◌<◌};
 ghost use Rattle.std.specs.Arc.{arc_value};
-ghost use Rattle.job_script.specs.declared.fault.FaultName.TheVariants as names;
 
 use crate::command::{Command, DcbName, Excp};
 use crate::fault::FaultName;
@@ -25,7 +24,7 @@ use std::alloc::Global;
 use std::sync::Arc;
 use tape_unit::InitialItem;
 use units::{block, disk, fault, mark, printer, record, tape};
-pub use verb::{SetUpVerb, Verb};
+pub(crate) use verb::{SetUpVerb, Verb};
 
 /// A line that declares something; the number in front is that of the unit.
 #[derive(Drop)]

@@ -4,7 +4,6 @@ ghost use Rattle.std.specs.Prelude.{◌≡◌, ◌<◌, ◌≤◌, ◌==◌, ◌
 ghost use Rattle.job_script.specs.Commands.{NamesUnits, most, request_count_of, request_count_to};
 ghost use Rattle.job_script.specs.Tasks.{list_of, places_of};
 ghost use Rattle.job_script.specs.declared.command.Command.{Command as OneCommand};
-ghost use Rattle.job_script.specs.declared.fault.FaultName.TheVariants as names;
 
 use crate::command::{Action, Command};
 use crate::fault::{FaultName, JobError};
@@ -148,23 +147,23 @@ impl Script {
         ensures { Leads result (said self.new) (adds_set_up (set_up_line verb number (words_in line.now)) (said self.old)) }
     {
         match verb {
-            SetUpVerb::Tasks => self.add_set_up(alloc, number, tasks(line)?),
-            SetUpVerb::Disk => self.add_set_up(alloc, number, disk(alloc, number, line)?),
-            SetUpVerb::Tape => self.add_set_up(alloc, number, tape(alloc, number, line)?),
-            SetUpVerb::Printer => self.add_set_up(alloc, number, printer(number, line)?),
-            SetUpVerb::Record => self.add_set_up(alloc, number, record(alloc, line)?),
-            SetUpVerb::Block => self.add_set_up(alloc, number, block(alloc, line)?),
-            SetUpVerb::Mark => self.add_set_up(alloc, number, mark(line)?),
-            SetUpVerb::Fault => self.add_set_up(alloc, number, fault(line)?),
-            SetUpVerb::Open => self.add_set_up(alloc, number, opening(alloc, number, line)?),
-            SetUpVerb::Area => self.add_set_up(alloc, number, area(alloc, line)?),
+            SetUpVerb::Tasks => self.add_set_up(alloc, tasks(line)?),
+            SetUpVerb::Disk => self.add_set_up(alloc, disk(alloc, number, line)?),
+            SetUpVerb::Tape => self.add_set_up(alloc, tape(alloc, number, line)?),
+            SetUpVerb::Printer => self.add_set_up(alloc, printer(number, line)?),
+            SetUpVerb::Record => self.add_set_up(alloc, record(alloc, line)?),
+            SetUpVerb::Block => self.add_set_up(alloc, block(alloc, line)?),
+            SetUpVerb::Mark => self.add_set_up(alloc, mark(line)?),
+            SetUpVerb::Fault => self.add_set_up(alloc, fault(line)?),
+            SetUpVerb::Open => self.add_set_up(alloc, opening(alloc, number, line)?),
+            SetUpVerb::Area => self.add_set_up(alloc, area(alloc, line)?),
         }
     }
 
     /// Adds what a set-up line says, if no command comes before it.
     #[inline(always)]
     #[tactic(auto, unfolding(crate::specs::Adding::add_line))]
-    fn add_set_up(&mut self, alloc: Global, number: usize, line: SetUpLine) -> Result<(), Refusal>
+    fn add_set_up(&mut self, alloc: Global, line: SetUpLine) -> Result<(), Refusal>
         ensures { Leads result (said self.new) (add_line (says_set_up (set_up_line_said line)) (said self.old)) }
     {
         if !self.commands.is_empty() {

@@ -1,10 +1,11 @@
 //! What the set-up lines of a script declare: its tasks, units, DCBs and areas. The faults of such lines: of their
 //! order, of names, of kinds and of areas.
 
-ghost use Rattle.std.specs.Prelude.{◌≡◌, ◌≤◌, ◌<◌, OnErr, OnOk, vec_len};
+ghost use Rattle.std.specs.Prelude.{◌≡◌, ◌≤◌, ◌<◌, IfErr, OnErr, OnOk, vec_len};
 ghost use Rattle.std.specs.Arc.{arc_value};
 ghost use Rattle.job_script.specs.Commands.{NamesUnits};
 ghost use Rattle.job_script.specs.Outcomes.{MakesArea};
+ghost use Rattle.job_script.specs.declared.fault.FaultName.TheVariants as names;
 
 use crate::command::{Action, Command, DcbName, Excp};
 use crate::fault::FaultName;
@@ -84,6 +85,8 @@ impl SetUp {
     /// A unit has this number.
     pub fn names_unit(&self, number: u16) -> Result<(), FaultName>
         ensures below { OnOk result (number < vec_len self.now.units) }
+        ensures past { OnErr result (vec_len self.now.units ≤ number) }
+        ensures name { IfErr result (λ fault. fault ≡ names.Name) }
     {
         if usize::from(number) < self.units.len() {
             Ok(())
@@ -125,7 +128,7 @@ impl SetUp {
     /// All that a command names is declared: its task, and a DCB or another task.
     #[inline(always)]
     #[tactic(auto, unfolding(crate::specs::Adding::names_command))]
-    pub fn names(&self, command: &Command) -> Result<(), FaultName>
+    pub(crate) fn names(&self, command: &Command) -> Result<(), FaultName>
         ensures read { Reads result (names_command (command_said command.now) (set_up_said self.now)) }
         ensures task { OnOk result (command.now.task < self.now.tasks) }
         ensures units { OnOk result (NamesUnits (vec_len self.now.units) command.now) }
@@ -163,7 +166,7 @@ impl SetUp {
     /// The command of an EXCP, with its area.
     #[inline(always)]
     #[tactic(auto, unfolding(crate::specs::Adding::excp_command))]
-    pub fn excp(&self, line: ExcpLine) -> Result<Command, Refusal>
+    pub(crate) fn excp(&self, line: ExcpLine) -> Result<Command, Refusal>
         ensures { Returns command_said result (excp_command line (set_up_said self.now)) }
     {
         Ok(Command {
