@@ -5,7 +5,7 @@ use Rattle.job_script.specs.declared.fault.JobError.TheVariants as faults
 
 -- 3 if memory or a thread is lacking, else 1
 abbrev pub exit_status : JobError → ℕ
-exit_status (faults.Line line name) = 1
+exit_status (faults.Line _ _) = 1
 exit_status faults.TooLong = 1
 exit_status faults.Unreadable = 1
 exit_status faults.NotWritten = 1
