@@ -532,7 +532,7 @@ def shows_its_source(setup):
 
 
 # Searches that find no record: for keys that are longer than what a step shows, one of one CCW and one of a data chain; and for an ID
-# that the skip flag keeps from the step.
+# with the skip flag, which counts for no search.
 SEARCHES = """tasks 1
 disk 0 0 1 1 1000
 rec 0 0 0 1 key C'SYS1.PROCLIB.OLD' fill 44 data C'F1'
@@ -581,8 +581,8 @@ def compares_what_it_knows(setup):
     blanks = "SYS1.LINKLIB".encode("cp037").ljust(16, b"\x40")
     differing = ["".join(f"{one:02X}" for one, other in zip(key, wanted) if one != other) for key in (old, blanks)]
     key = f"Looked for key {pages.grouped(wanted.hex().upper())} |SYS1.LINKLIB.NEW| … on track 0 0, passed 4 records, found none."
-    chained = "Looked for key E2 |S| … on track 0 0, passed 4 records, found none."
-    expected = [(key, differing), (chained, ["", ""]), ("Looked on track 0 0, passed 6 records", ["", "", ""])]
+    by_id = "Looked for ID 00000000 09 on track 0 0, passed 6 records, found none."
+    expected = [(key, differing), (key, differing), (by_id, ["00", "01", "02"])]
     with tempfile.TemporaryDirectory() as folder, browser.Browser() as it:
         file = written(folder, page_of(setup, "report", "--html", script=SEARCHES))
         for number, (words, marks) in enumerate(expected, 1):

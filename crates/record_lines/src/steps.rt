@@ -107,7 +107,7 @@ fn write_broken<W: Write>(out: &mut W, broken: &Broken<'_>) -> io::Result<()> {
 }
 
 /// Writes the first of the bytes that a command moved.
-fn write_moved<W: Write>(out: &mut W, moved: &Moved<'_>) -> io::Result<()> {
+fn write_moved<W: Write>(out: &mut W, moved: &Moved) -> io::Result<()> {
     let way = match moved.way {
         Way::From => "from",
         Way::To => "to",
@@ -118,8 +118,8 @@ fn write_moved<W: Write>(out: &mut W, moved: &Moved<'_>) -> io::Result<()> {
         ",\"moved\":{},\"way\":\"{way}\",\"address\":\"{:06X}\",\"bytes\":",
         moved.count, moved.address
     )?;
-    match moved.bytes {
-        Shown::Bytes(bytes) => write_hex(out, bytes)?,
+    match &moved.bytes {
+        Shown::Bytes(bytes) => write_hex(out, bytes.as_slice())?,
         Shown::Skipped => out.write_all(b"\"skipped\"")?,
         Shown::Outside => out.write_all(b"\"\"")?,
     }

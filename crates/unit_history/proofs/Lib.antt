@@ -4,6 +4,7 @@ pub mod Begun
 pub mod DcbLaws
 pub mod DoomCauses
 pub mod Entries
+mod MovedLaws
 pub mod ReplayNext
 pub mod OrderlyLaws
 pub mod PastLaws

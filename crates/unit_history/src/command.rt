@@ -1,13 +1,13 @@
 //! A command of a history: its CCWs, the first of the bytes that it moved, and how it ended.
 
+ghost use Rattle.std.specs.Prelude.{IfSome};
+ghost use Rattle.unit_history.specs.MovedData.{ShowsMoved};
+
+use crate::moved::{Moved, Shown, Way};
 use crate::place::Place;
 use ccw_programs::{Context, Link, Listing, Rule, State};
-use device_port::{Flow, Segment};
 use io_area::Area;
 use io_images::Csw;
-
-/// The most bytes of a command's data that are shown.
-const SHOWN: u32 = 16;
 
 /// A command of a channel program, after it was done.
 #[derive(Drop)]
@@ -17,39 +17,6 @@ pub struct Command<'c> {
     pub(crate) area: &'c Area,
     pub(crate) fault: Option<usize>,
     pub(crate) place: Option<Place<'c>>,
-}
-
-/// The bytes that a command moved, and the first of them.
-#[derive(Clone, Copy)]
-pub struct Moved<'c> {
-    pub count: u32,
-    pub way: Way,
-    /// Where the first part of its storage begins. A read backward fills it downward.
-    pub address: u32,
-    pub bytes: Shown<'c>,
-    /// Whether there are more bytes than the shown ones.
-    pub has_more: bool,
-}
-
-/// The way of data.
-#[derive(Clone, Copy)]
-pub enum Way {
-    /// From storage to the device.
-    From,
-    /// From the device to storage.
-    To,
-    /// From the device to storage, from its highest address down.
-    DownFrom,
-}
-
-/// What is shown of data.
-#[derive(Clone, Copy)]
-pub enum Shown<'c> {
-    Bytes(&'c [u8]),
-    /// The CCW has the skip flag.
-    Skipped,
-    /// The bytes lie outside the area. A command moves none of these.
-    Outside,
 }
 
 /// A CCW that breaks a rule: its address, its image if it can be fetched, and the rule.
@@ -105,31 +72,26 @@ impl<'c> Command<'c> {
     }
 
     /// The bytes that it moved, if it moved any.
-    pub fn moved(&self) -> Option<Moved<'c>> {
+    pub fn moved(&self) -> Option<Moved>
+        ensures { IfSome result (ShowsMoved self.now.listing.flow self.now.area.now self.now.listing.parts.now) }
+    {
         let count = moved_bytes(self.listing.links, &self.context.halted());
-        let [part, ..] = self.listing.parts else {
-            return None;
-        };
         if count == 0 {
             return None;
         }
-        let shown = count.min(u32::from(part.count)).min(SHOWN);
-        let (way, from) = match self.listing.flow {
-            Some(Flow::Out) => (Way::From, part.address),
-            Some(Flow::Back) => (Way::DownFrom, lowest(part, shown)),
-            _ => (Way::To, part.address),
+        let way = Way::of(self.listing.flow);
+        let parts = self.listing.parts;
+        let [part, ..] = parts else {
+            return None;
         };
-        let bytes = match self.area.get(from, shown as usize) {
-            Some(_) if part.skip => Shown::Skipped,
-            Some(bytes) => Shown::Bytes(bytes),
-            None => Shown::Outside,
-        };
+        let bytes = Shown::of(way, self.area, parts, count);
+        let has_more = bytes.count(part) < count as usize;
         Some(Moved {
             count,
             way,
             address: part.address,
             bytes,
-            has_more: count > shown,
+            has_more,
         })
     }
 
@@ -156,11 +118,6 @@ fn ending_of(csw: &Csw, modifier: u16, after: After) -> Ending {
         residual: u16::from_be_bytes([high, low]),
         after,
     }
-}
-
-/// The lowest address of `count` bytes that end where a part begins.
-fn lowest(part: &Segment, count: u32) -> u32 {
-    part.address.saturating_sub(count.saturating_sub(1))
 }
 
 /// How many bytes a command moved: those that its CCWs count up to the one where it ended, which it stored, but for
