@@ -1,6 +1,6 @@
 //! The line of an event of a unit.
 
-use crate::form::{Commas, OrNull, write_hex};
+use crate::form::{OrNull, write_member};
 use crate::posts::write_end;
 use io_images::Extent;
 use post_lines::End;
@@ -86,19 +86,19 @@ fn write_opening<W: Write>(
         out,
         "\"opened\",\"dcb\":{dcb},\"way\":\"{way}\",\"extents\":["
     )?;
-    let mut commas = Commas::new();
+    let mut comma = "";
     for extent in extents {
-        commas.next(out)?;
-        write_extent(out, extent)?;
+        write_extent(out, comma, extent)?;
+        comma = ",";
     }
     out.write_all(b"]")
 }
 
-/// Writes the first and the last track of an extent, each as its cylinder and its head.
-fn write_extent<W: Write>(out: &mut W, extent: &Extent) -> io::Result<()> {
+/// Writes a comma, if any, and the first and the last track of an extent, each as its cylinder and its head.
+fn write_extent<W: Write>(out: &mut W, comma: &str, extent: &Extent) -> io::Result<()> {
     write!(
         out,
-        "{{\"from\":[{},{}],",
+        "{comma}{{\"from\":[{},{}],",
         extent.start_cylinder, extent.start_head
     )?;
     write!(
@@ -118,8 +118,7 @@ fn write_arrival<W: Write>(out: &mut W, issued: &Issued) -> io::Result<()> {
     )?;
     let mut seek = [0; 8];
     issued.seek().write(&mut seek);
-    out.write_all(b",\"seek\":")?;
-    write_hex(out, &seek)?;
+    write_member(out, "seek", Some(&seek))?;
     write!(out, ",\"start\":\"{:06X}\"", issued.start().get())
 }
 

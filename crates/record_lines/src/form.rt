@@ -1,29 +1,8 @@
-//! Pieces of JSON: lists, and bytes in hexadecimal.
+//! Pieces of JSON: bytes in hexadecimal, and null.
 
 use post_lines::write_bytes;
 use std::io::Write;
 use std::{fmt, io};
-
-/// Writes a comma before each element of a list but the first.
-#[derive(Clone, Copy)]
-pub(crate) struct Commas {
-    is_first: bool,
-}
-
-impl Commas {
-    pub fn new() -> Commas {
-        Commas { is_first: true }
-    }
-
-    /// The next element comes.
-    pub fn next<W: Write>(&mut self, out: &mut W) -> io::Result<()> {
-        if self.is_first {
-            self.is_first = false;
-            return Ok(());
-        }
-        out.write_all(b",")
-    }
-}
 
 /// Writes bytes in hexadecimal as a text, which is empty for none.
 pub(crate) fn write_hex<W: Write>(out: &mut W, bytes: &[u8]) -> io::Result<()> {
@@ -32,6 +11,19 @@ pub(crate) fn write_hex<W: Write>(out: &mut W, bytes: &[u8]) -> io::Result<()> {
         write_bytes(out, bytes)?;
     }
     out.write_all(b"\"")
+}
+
+/// Writes a member with bytes in hexadecimal, or null, after a comma.
+pub(crate) fn write_member<W: Write>(
+    out: &mut W,
+    name: &str,
+    bytes: Option<&[u8]>,
+) -> io::Result<()> {
+    write!(out, ",\"{name}\":")?;
+    match bytes {
+        Some(bytes) => write_hex(out, bytes),
+        None => out.write_all(b"null"),
+    }
 }
 
 /// A number, or null.

@@ -12,6 +12,5 @@ mod media;
 mod places;
 mod posts;
 mod steps;
-mod track;
 
 pub use lines::{Part, write_run, write_unit};

@@ -1,7 +1,6 @@
 //! The lines of a medium, and of what lies on it.
 
-use crate::form::{OrNull, write_hex};
-use crate::track::Track;
+use crate::form::{OrNull, write_member};
 use any_device::AnyDevice;
 use ckd_disk::{Disk, Stored};
 use device_port::Device;
@@ -10,6 +9,24 @@ use run_record::{Room, UnitRecord};
 use std::io;
 use std::io::Write;
 use tape_unit::Tape;
+
+/// A track, by its cylinder and its head.
+#[derive(Clone, Copy)]
+struct Track {
+    cylinder: u16,
+    head: u16,
+}
+
+impl Track {
+    /// Whether a record is the R0 that mounting puts on it.
+    fn has_mounted(self, record: &Stored<'_>) -> bool {
+        let [cylinder_high, cylinder_low] = self.cylinder.to_be_bytes();
+        let [head_high, head_low] = self.head.to_be_bytes();
+        record.id() == [cylinder_high, cylinder_low, head_high, head_low, 0].as_slice()
+            && record.key().is_empty()
+            && record.content() == [0; 8].as_slice()
+    }
+}
 
 /// Writes the medium of a unit as it is at the end of a run.
 pub(crate) fn write_medium<W: Write>(out: &mut W, unit: &UnitRecord<'_>) -> io::Result<()> {
@@ -67,13 +84,11 @@ fn write_record<W: Write>(
     let Track { cylinder, head } = track;
     write!(
         out,
-        "{{\"what\":\"record\",\"cylinder\":{cylinder},\"head\":{head},\"nth\":{nth},\"id\":"
+        "{{\"what\":\"record\",\"cylinder\":{cylinder},\"head\":{head},\"nth\":{nth}"
     )?;
-    write_hex(out, record.id())?;
-    out.write_all(b",\"key\":")?;
-    write_hex(out, record.key())?;
-    out.write_all(b",\"data\":")?;
-    write_hex(out, record.content())?;
+    write_member(out, "id", Some(record.id()))?;
+    write_member(out, "key", Some(record.key()))?;
+    write_member(out, "data", Some(record.content()))?;
     out.write_all(b"}\n")
 }
 
@@ -98,11 +113,8 @@ fn write_tape<W: Write>(out: &mut W, tape: &Tape, room: Option<Room>) -> io::Res
 
 /// Writes an item: of a block its bytes, and null for a tape mark.
 fn write_item<W: Write>(out: &mut W, block: Option<&[u8]>) -> io::Result<()> {
-    out.write_all(b"{\"what\":\"item\",\"block\":")?;
-    match block {
-        Some(block) => write_hex(out, block)?,
-        None => out.write_all(b"null")?,
-    }
+    out.write_all(b"{\"what\":\"item\"")?;
+    write_member(out, "block", block)?;
     out.write_all(b"}\n")
 }
 
@@ -132,9 +144,9 @@ fn write_line<W: Write>(out: &mut W, line: &PrintedLine) -> io::Result<()> {
     let at = line.position();
     write!(
         out,
-        "{{\"what\":\"line\",\"page\":{},\"line\":{},\"bytes\":",
+        "{{\"what\":\"line\",\"page\":{},\"line\":{}",
         at.page, at.line
     )?;
-    write_hex(out, line.bytes())?;
+    write_member(out, "bytes", Some(line.bytes()))?;
     out.write_all(b"}\n")
 }

@@ -1,6 +1,6 @@
 //! Where on its medium a command was.
 
-use crate::form::{Commas, write_hex};
+use crate::form::{write_hex, write_member};
 use std::io;
 use std::io::Write;
 use unit_history::{Passed, Place, RecordPlace};
@@ -29,13 +29,11 @@ fn write_record_place<W: Write>(out: &mut W, record: &RecordPlace<'_>) -> io::Re
         record.cylinder, record.head
     )?;
     if record.number().is_none() {
-        out.write_all(b",\"id\":")?;
-        write_hex(out, record.id)?;
+        write_member(out, "id", Some(record.id))?;
     }
     write!(out, ",\"nth\":{}", record.nth)?;
     if !record.key.is_empty() {
-        out.write_all(b",\"key\":")?;
-        write_hex(out, record.key)?;
+        write_member(out, "key", Some(record.key))?;
     }
     match record.is_equal {
         Some(is_equal) => write!(out, ",\"equal\":{is_equal}"),
@@ -61,7 +59,7 @@ fn write_passed<W: Write>(out: &mut W, passed: &Passed<'_>) -> io::Result<()> {
 
 /// Writes the first IDs or keys of a track. Returns how many more there are.
 fn write_compared<W: Write>(out: &mut W, passed: &Passed<'_>) -> io::Result<usize> {
-    let mut commas = Commas::new();
+    let mut comma: &[u8] = b"";
     let mut count: usize = 0;
     for record in passed.disk.records(passed.cylinder, passed.head) {
         let compared = if passed.by_key {
@@ -70,8 +68,9 @@ fn write_compared<W: Write>(out: &mut W, passed: &Passed<'_>) -> io::Result<usiz
             record.id()
         };
         if count < MOST_PASSED {
-            commas.next(out)?;
+            out.write_all(comma)?;
             write_hex(out, compared)?;
+            comma = b",";
         }
         count = count.saturating_add(1);
     }

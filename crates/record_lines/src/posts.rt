@@ -1,7 +1,7 @@
 //! The lines of the posts of a run, and of what its tasks did.
 
-use crate::form::write_hex;
-use post_lines::{End, digits_of};
+use crate::form::write_member;
+use post_lines::End;
 use run_record::{Ended, TaskEvent, TaskRecord};
 use std::io;
 use std::io::Write;
@@ -38,10 +38,9 @@ fn write_posts_at<W: Write>(
 /// Writes how a request ended, up to the end of its line.
 fn write_ended<W: Write>(out: &mut W, ended: &Ended<'_>) -> io::Result<()> {
     write_end(out, &ended.end)?;
-    out.write_all(b",\"shown\":")?;
-    write_hex(out, ended.shown)?;
-    write!(out, ",\"iob_at\":\"{:06X}\",\"iob\":", ended.iob.show())?;
-    write_hex(out, ended.iob.shown())?;
+    write_member(out, "shown", Some(ended.shown))?;
+    write!(out, ",\"iob_at\":\"{:06X}\"", ended.iob.show())?;
+    write_member(out, "iob", Some(ended.iob.shown()))?;
     out.write_all(b"}\n")
 }
 
@@ -49,14 +48,10 @@ fn write_ended<W: Write>(out: &mut W, ended: &Ended<'_>) -> io::Result<()> {
 pub(crate) fn write_end<W: Write>(out: &mut W, end: &End) -> io::Result<()> {
     let mut csw = [0; 8];
     end.csw.write(&mut csw);
-    out.write_all(b",\"code\":\"")?;
-    out.write_all(&digits_of(end.code.byte()))?;
-    out.write_all(b"\",\"address\":")?;
-    write_hex(out, &csw[1..4])?;
-    out.write_all(b",\"status\":")?;
-    write_hex(out, &csw[4..6])?;
-    out.write_all(b",\"residual\":")?;
-    write_hex(out, &csw[6..])?;
+    write_member(out, "code", Some(&[end.code.byte()]))?;
+    write_member(out, "address", Some(&csw[1..4]))?;
+    write_member(out, "status", Some(&csw[4..6]))?;
+    write_member(out, "residual", Some(&csw[6..]))?;
     write!(out, ",\"sense\":\"{:04X}\"", end.sense)
 }
 
@@ -71,19 +66,14 @@ pub(crate) fn write_tasks<W: Write>(out: &mut W, tasks: &[TaskRecord]) -> io::Re
 }
 
 fn write_task_event<W: Write>(out: &mut W, task: usize, event: &TaskEvent) -> io::Result<()> {
-    match event {
-        TaskEvent::Issued { unit, number } => writeln!(
-            out,
-            "{{\"what\":\"issued\",\"task\":{task},\"unit\":{unit},\"request\":{number}}}"
-        ),
-        TaskEvent::Waited => writeln!(out, "{{\"what\":\"waited\",\"task\":{task}}}"),
-        TaskEvent::Collected { unit, number } => writeln!(
-            out,
-            "{{\"what\":\"collected\",\"task\":{task},\"unit\":{unit},\"request\":{number}}}"
-        ),
-        TaskEvent::Controlled { unit, entry } => writeln!(
-            out,
-            "{{\"what\":\"controlled\",\"task\":{task},\"unit\":{unit},\"entry\":{entry}}}"
-        ),
-    }
+    let (what, unit, of, number) = match event {
+        TaskEvent::Waited => return writeln!(out, "{{\"what\":\"waited\",\"task\":{task}}}"),
+        TaskEvent::Issued { unit, number } => ("issued", unit, "request", *number as usize),
+        TaskEvent::Collected { unit, number } => ("collected", unit, "request", *number as usize),
+        TaskEvent::Controlled { unit, entry } => ("controlled", unit, "entry", *entry),
+    };
+    writeln!(
+        out,
+        "{{\"what\":\"{what}\",\"task\":{task},\"unit\":{unit},\"{of}\":{number}}}"
+    )
 }

@@ -1,6 +1,6 @@
 //! The lines of the commands of a unit's programs.
 
-use crate::form::{Commas, OrNull, write_hex};
+use crate::form::{OrNull, write_hex, write_member};
 use crate::places::write_place;
 use any_device::AnyDevice;
 use ccw_programs::{Link, Workspace};
@@ -61,10 +61,10 @@ impl<'t> Steps<'t> {
 /// Writes a command: its CCWs, the bytes that it moved, how it ended, and its place.
 fn write_command<W: Write>(out: &mut W, command: &Command<'_>) -> io::Result<()> {
     out.write_all(b"{\"what\":\"step\",\"ccws\":[")?;
-    let mut commas = Commas::new();
+    let mut comma = "";
     for link in command.links() {
-        commas.next(out)?;
-        write_ccw(out, link)?;
+        write_ccw(out, comma, link)?;
+        comma = ",";
     }
     out.write_all(b"]")?;
     match command.broken() {
@@ -87,22 +87,19 @@ fn write_done<W: Write>(out: &mut W, command: &Command<'_>) -> io::Result<()> {
     }
 }
 
-/// Writes a CCW.
-fn write_ccw<W: Write>(out: &mut W, link: &Link) -> io::Result<()> {
+/// Writes a comma, if any, and a CCW.
+fn write_ccw<W: Write>(out: &mut W, comma: &str, link: &Link) -> io::Result<()> {
     let mut image = [0; 8];
     link.ccw.write(&mut image);
-    write!(out, "{{\"at\":\"{:06X}\",\"image\":", link.at)?;
-    write_hex(out, &image)?;
+    write!(out, "{comma}{{\"at\":\"{:06X}\"", link.at)?;
+    write_member(out, "image", Some(&image))?;
     out.write_all(b"}")
 }
 
 /// Writes the rule that a CCW breaks.
 fn write_broken<W: Write>(out: &mut W, broken: &Broken<'_>) -> io::Result<()> {
-    write!(out, ",\"rule\":{{\"at\":\"{:06X}\",\"image\":", broken.at)?;
-    match broken.image {
-        Some(image) => write_hex(out, image)?,
-        None => out.write_all(b"null")?,
-    }
+    write!(out, ",\"rule\":{{\"at\":\"{:06X}\"", broken.at)?;
+    write_member(out, "image", broken.image)?;
     write!(out, ",\"text\":\"{}\"}}", broken.rule)
 }
 
