@@ -25,7 +25,7 @@ pub moved-on : (way : Way) (m : Storage) (parts : List Segment) (i : ℕ) (d : S
     count ≡ min (get_or parts i d).count (most - length bytes) →
     with_later way bytes (first_moved way m (most - length bytes) (drop i parts)) ≡ whole →
     with_later way (with_later way bytes (first_of_part way m (get_or parts i d) count))
-        (first_moved way m (most - (length bytes + count)) (drop (i + 1) parts)) ≡ whole
+    (first_moved way m (most - (length bytes + count)) (drop (i + 1) parts)) ≡ whole
 unfolding first_moved
 moved-on way m parts i d most count bytes whole h few kept is told =
     let s = get_or parts i d in
