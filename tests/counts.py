@@ -42,17 +42,20 @@ Row = form(words=COUNT, table=COUNT * 7, capacity=COUNT, lap=COUNT, first=BYTE, 
 Sender = form(row=COUNT, tag=HALF, number=HALF, count=COUNT)
 Taker = form(row=COUNT, tag=HALF, counts=Vec)
 
-# Fan and Rows of excp_system, and Option<Active> of unit_book.
+# Pen of signed_list, and Fan, Pens, Log and Rows of excp_system, and Option<Active> of unit_book.
 Fan = form(number=HALF, ends=Vec)
+Pens = form(number=HALF, pens=Vec)
+Pen = form(queue=COUNT, has_pass=BYTE, number=HALF)
+Log = form(queue=COUNT, own=Pen)
 Rows = form(tasks=HALF, units=HALF, capacities=COUNT * 2, intake=Vec, post=Vec, notice=Vec)
 Active = form(is_some=BYTE, piece=COUNT, starts=WORD, halted=BYTE, covered=BYTE, standing=WORD * 4)
 
 # Of Entries of unit_book all from the field `active` on, and what follows it in UnitState of excp_system.
 Book = form(active=Active, waiting=Ring, swept=Ring, dcbs=Vec, trace=Vec, out=Ring)
-Unit = form(book=Book, intake=Taker, back=Fan, notice=Sender, owes=BYTE)
+Unit = form(book=Book, intake=Taker, back=Fan, notice=Sender, log=Log, owes=BYTE)
 
 # Client, with Task of excp_system, and Sleeper of system_threads.
-Client = form(number=HALF, out=Fan, taker=Taker, issued=COUNT, collected=COUNT, parker=COUNT)
+Client = form(number=HALF, out=Fan, taker=Taker, pens=Pens, issued=COUNT, collected=COUNT, parker=COUNT)
 Sleeper = form(parker=COUNT, wanted=ctypes.c_int64)
 
 

@@ -1,5 +1,5 @@
 -- A book continues with each call, so it began as the one that was handed in.
-use Rattle.std.proofs.Common.{◌≡◌, ℕ, Bool, true, false, List, [], ◌∷◌, ◌++◌, Some, refl, sym, ap, ◌∙◌, subst, append_assoc}
+use Rattle.std.proofs.Common.{◌≡◌, ℕ, Bool, true, false, List, [], ◌∷◌, ◌++◌, Some, refl, sym, ap, ◌∙◌, append_assoc}
 use Rattle.std.specs.Prelude.{IfOk, OnErr, slice_get}
 use Rattle.std.specs.declared.result.Result.{Result}
 use Rattle.io_images.specs.Images.{no_status}

@@ -18,6 +18,8 @@ use Rattle.fifo_row.specs.Ends.{Sending, Taking}
 use Rattle.fifo_row.specs.Lists.{of}
 use Rattle.excp_system.specs.declared.item.Notice.{Notice}
 use Rattle.excp_system.specs.Sites.{SiteRows, intake_rows, post_rows, notice_rows, for_task, taker_of, end_of}
+use Rattle.excp_system.specs.declared.control.Control.{Control}
+use Rattle.excp_system.specs.Controls.{PensState}
 use Rattle.excp_system.specs.Fans.{FanState, sent_to}
 use Rattle.excp_system.specs.States.{TaskState, HandlerState, IsUnit, IsTask, IsHandler, AreOf}
 use Rattle.excp_system.specs.Opening.{AreTasks}
@@ -30,38 +32,45 @@ each_next : {A : Type 0} (made : ℕ → A) (k : ℕ) (xs : List A) (x : A) → 
 each_next made k xs x here old is j y e =
     ⊎_elim (λ o. old j y o) (λ (p : (j ≡ length xs) × (x ≡ y)). sym p.1 ∙ (is ∙ ap made (sym (p.0 ∙ here)))) (get_snoc xs x y j e)
 
-pub is_task : (s : SiteRows) (t number : ℕ) (out : FanState Piece) (end : Taking PostedState) → number ≡ out.number →
+pub is_task : (s : SiteRows) (t number : ℕ) (out : FanState Piece) (end : Taking PostedState) (pens : PensState) → number ≡ out.number →
     t < s.tasks → s.units < 2 ^ 16 →
     out ≡ record { number = t; sent = replicate s.units [] } → end ≡ taker_of (post_rows s) s.units t [] →
-    IsTask s (record { number = number; sent = out.sent; got = end.taken }) out end
-is_task s t number out end same of_site few is is' =
+    pens ≡ record { number = t; asked = replicate s.units [] } →
+    IsTask s (record { number = number; sent = out.sent; got = end.taken; asked = pens.asked }) out end pens
+is_task s t number out end pens same of_site few is is' are =
     let n : number ≡ t = same ∙ ap (λ (f : FanState Piece). f.number) is in
     record {
       of_site = omega (arith, of_site, n);
       out_is = λ i. record { number = sym same i; sent = out.sent };
       collected_is = is' ∙ (λ i. taker_of (post_rows s) s.units (sym n i) (sym (ap (λ (e : Taking PostedState). e.taken) is') i));
+      pens_are = λ i. record { number = (ap (λ (p : PensState). p.number) are ∙ sym n) i; asked = pens.asked };
       count = ap (λ (f : FanState Piece). length f.sent) is ∙ length-replicate s.units [];
+      pen_count = ap (λ (p : PensState). length p.asked) are ∙ length-replicate s.units [];
       few_units = few;
       few = All-same (λ (l : List Piece). length l ≤ 2 ^ 32 - 1) out.sent (replicate s.units []) (ap (λ (f : FanState Piece). f.sent) is)
           (All-replicate (λ (l : List Piece). length l ≤ 2 ^ 32 - 1) s.units [] (omega arith));
     }
 
 -- a task that has sent one more request, or whose row was full
-pub task_sends : {A E : Type 0} (s : SiteRows) (number k : ℕ) (out new : FanState Piece) (end : Taking PostedState) (more : List Piece)
-    (r : Result A E) → IsTask s (record { number = number; sent = out.sent; got = end.taken }) out end →
+pub task_sends : {A E : Type 0} (s : SiteRows) (number k : ℕ) (out new : FanState Piece) (end : Taking PostedState) (pens : PensState)
+    (more : List Piece)
+    (r : Result A E) → IsTask s (record { number = number; sent = out.sent; got = end.taken; asked = pens.asked }) out end pens →
     OnOk r (new ≡ record { number = out.number; sent = slice_set out.sent k more }) → OnErr r (new ≡ out) → length more ≤ 2 ^ 32 - 1 →
-    IsTask s (record { number = number; sent = new.sent; got = end.taken }) new end
-task_sends s number k out new end more (Ok a) is sent same few = record {
+    IsTask s (record { number = number; sent = new.sent; got = end.taken; asked = pens.asked }) new end pens
+task_sends s number k out new end pens more (Ok a) is sent same few = record {
   of_site = is.of_site;
   out_is = sent ∙ (λ i. record { number = (is.out_is i).number; sent = (sym sent i).sent });
   collected_is = is.collected_is;
+  pens_are = is.pens_are;
+  pen_count = is.pen_count;
   count = ap (λ (f : FanState Piece). length f.sent) sent ∙ length-set out.sent k more ∙ is.count;
   few_units = is.few_units;
   few = All-same (λ (l : List Piece). length l ≤ 2 ^ 32 - 1) new.sent (set out.sent k more) (ap (λ (f : FanState Piece). f.sent) sent)
       (All-set (λ (l : List Piece). length l ≤ 2 ^ 32 - 1) out.sent k more few is.few);
 }
-task_sends s number k out new end more (Err e) is sent same few =
-    subst (λ (f : FanState Piece). IsTask s (record { number = number; sent = f.sent; got = end.taken }) f end) (sym same) is
+task_sends s number k out new end pens more (Err e) is sent same few =
+    subst (λ (f : FanState Piece). IsTask s (record { number = number; sent = f.sent; got = end.taken; asked = pens.asked }) f end pens) (sym same)
+    is
 
 pub is_handler : (s : SiteRows) (k isc : ℕ) (end : Taking Notice) → isc ≡ k → k ≤ 7 → end ≡ taker_of (notice_rows s) s.units k [] →
     IsHandler s (record { isc = isc; taken = end.taken }) end
@@ -70,14 +79,20 @@ is_handler s k isc end turn fits is = record {
   end_is = is ∙ (λ i. taker_of (notice_rows s) s.units (sym turn i) (sym (ap (λ (e : Taking Notice). e.taken) is) i));
 }
 
-pub tasks_next : (units t : ℕ) (tasks : List TaskState) (w : TaskState) (number : ℕ) (out : FanState Piece) (got : List PostedState) →
+pub tasks_next : (units t : ℕ) (tasks : List TaskState) (w : TaskState) (number : ℕ) (out : FanState Piece) (got : List PostedState)
+    (asked : List (List Control)) →
     length tasks ≡ t → AreTasks t units tasks →
-    w ≡ record { number = number; sent = out.sent; got = got } → number ≡ out.number →
-    out ≡ record { number = t; sent = replicate units [] } → got ≡ [] → AreTasks (t + 1) units (tasks ++ w ∷ [])
-tasks_next units t tasks w number out got here old is same out_is none = record {
+    w ≡ record { number = number; sent = out.sent; got = got; asked = asked } → number ≡ out.number →
+    out ≡ record { number = t; sent = replicate units [] } → got ≡ [] → asked ≡ replicate units [] → AreTasks (t + 1) units (tasks ++ w ∷ [])
+tasks_next units t tasks w number out got asked here old is same out_is none no_controls = record {
   count_is = omega (arith, length-append tasks (w ∷ []), here);
-  each = each_next (λ n. record { number = n; sent = replicate units []; got = [] }) t tasks w here old.each
-      (is ∙ (λ i. record { number = (same ∙ ap (λ (f : FanState Piece). f.number) out_is) i; sent = (out_is i).sent; got = none i }));
+  each = each_next (λ n. record { number = n; sent = replicate units []; got = []; asked = replicate units [] }) t tasks w here old.each
+      (is ∙ (λ i. record {
+        number = (same ∙ ap (λ (f : FanState Piece). f.number) out_is) i;
+        sent = (out_is i).sent;
+        got = none i;
+        asked = no_controls i;
+      }));
 }
 
 pub handlers_next : (k : ℕ) (handlers : List HandlerState) (h : HandlerState) → length handlers ≡ k →

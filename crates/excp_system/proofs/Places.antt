@@ -32,6 +32,12 @@ module _ {A : Type 0} where
   get_snoc (x ∷ xs) a b zero e = inl e
   get_snoc (x ∷ xs) a b (suc k) e = ⊎_elim (λ t. inl t) (λ t. inr (ap suc t.0, t.1)) (get_snoc xs a b k e)
 
+  -- the element at a place, with one more at the end
+  pub get_front : (xs : List A) (a b : A) (k : ℕ) → slice_get xs k ≡ Some b → slice_get (xs ++ a ∷ []) k ≡ Some b
+  get_front [] a b k e = absurd (cc e)
+  get_front (x ∷ xs) a b zero e = e
+  get_front (x ∷ xs) a b (suc k) e = get_front xs a b k e
+
   -- what is left of a list begins with the element at that place
   pub drop_get : (k : ℕ) (xs rest : List A) (x : A) → drop k xs ≡ x ∷ rest → slice_get xs k ≡ Some x
   drop_get zero [] rest x e = absurd (cc e)

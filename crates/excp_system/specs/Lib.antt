@@ -1,6 +1,7 @@
 -- The definitions of excp_system: whose row each is, what a lock and a task keep, the notices of a pending status,
 -- the units at rest, and the calls of tasks and units.
 pub mod Sites
+pub mod Controls
 pub mod Fans
 pub mod States
 pub mod Begun

@@ -1,10 +1,12 @@
 -- ROWS THAT NOBODY USES YET, and what is made of them (profile).
-use Rattle.std.specs.Prelude.{◌≡◌, ℕ, List, [], length, Some, true, slice_get, slice_index_or, replicate}
+use Rattle.std.specs.Prelude.{◌≡◌, ℕ, ◌+◌, List, [], false, length, Some, true, slice_get, slice_index_or, replicate}
 use Rattle.std.specs.List.{list_all}
 use Rattle.unit_book.specs.Book.{Book}
 use Rattle.unit_book.specs.Trace.{is_opening}
 use Rattle.fifo_row.specs.Ends.{Fresh, Taking, no_name, unseated}
+use Rattle.signed_list.specs.Signed.{Blank, no_name as no_register}
 use Rattle.excp_system.specs.Sites.{SiteRows, ReachedRows, taker_of}
+use Rattle.excp_system.specs.Controls.{LogState, PensState}
 use Rattle.excp_system.specs.Fans.{FanState}
 use Rattle.excp_system.specs.States.{TaskState, HandlerState}
 
@@ -17,6 +19,7 @@ pub record RowsState : Type 0 where
   pub intake : List Fresh
   pub post : List Fresh
   pub notice : List Fresh
+  pub registers : List Blank
 
 abbrev pub no_row : Fresh
 no_row = unseated no_name 0 0 0
@@ -24,6 +27,9 @@ no_row = unseated no_name 0 0 0
 -- the row at a place
 abbrev pub row_at : List Fresh → ℕ → Fresh
 row_at rows k = slice_index_or rows k no_row
+
+abbrev pub register_at : List Blank → ℕ → Blank
+register_at registers unit = slice_index_or registers unit (record { register = no_register; pens = 0; seated = true })
 
 -- the site that these rows make
 abbrev pub site_of : RowsState → SiteRows
@@ -35,6 +41,7 @@ site_of v = record {
   intake = λ unit. (row_at v.intake unit).row;
   post = λ task. (row_at v.post task).row;
   notice = λ isc. (row_at v.notice isc).row;
+  register = λ unit. (register_at v.registers unit).register;
 }
 
 -- `count` rows that gave no seats yet, each with its place for its tag
@@ -42,20 +49,41 @@ pub record ArePlain (capacity count senders : ℕ) (rows : List Fresh) : Type 0 
   pub count_is : length rows ≡ count
   pub each : (k : ℕ) (f : Fresh) → slice_get rows k ≡ Some f → f ≡ unseated f.row capacity k senders
 
+-- `count` registers that gave no pens yet, each with a pen for each task and one more
+pub record AreBlank (count tasks : ℕ) (registers : List Blank) : Type 0 where
+  pub count_is : length registers ≡ count
+  pub each : (unit : ℕ) (r : Blank) → slice_get registers unit ≡ Some r → (r.pens ≡ tasks + 1) × (r.seated ≡ false)
+
 -- rows that were just made
 pub record AreFresh (v : RowsState) : Type 0 where
   pub intakes : ArePlain v.intake_capacity v.units v.tasks v.intake
   pub posts : ArePlain v.post_capacity v.tasks v.units v.post
   pub notices : ArePlain v.units 8 v.units v.notice
+  pub registers : AreBlank v.units v.tasks v.registers
 
 -- each row is the one that is reached at its place, and gave no seats yet
 abbrev pub AreRows : ReachedRows → ℕ → List Fresh → Type 0
 AreRows r senders rows = (k : ℕ) (f : Fresh) → slice_get rows k ≡ Some f → f ≡ unseated (r.row k) r.capacity k senders
 
+-- each register is the one of its unit, and gave no pens yet
+abbrev pub AreRegisters : SiteRows → ℕ → List Blank → Type 0
+AreRegisters s tasks registers = (unit : ℕ) (r : Blank) → slice_get registers unit ≡ Some r →
+    (r.register ≡ s.register unit) × (r.pens ≡ tasks + 1) × (r.seated ≡ false)
+
 -- `count` senders' ends of the first `rows` rows, into which nothing was sent
 pub record AreFans {I : Type 0} (count rows : ℕ) (fans : List (FanState I)) : Type 0 where
   pub count_is : length fans ≡ count
   pub each : (t : ℕ) (f : FanState I) → slice_get fans t ≡ Some f → f ≡ record { number = t; sent = replicate rows [] }
+
+-- `count` tasks' pens of the first `units` units, which signed nothing
+pub record AreHands (count units : ℕ) (hands : List PensState) : Type 0 where
+  pub count_is : length hands ≡ count
+  pub each : (t : ℕ) (p : PensState) → slice_get hands t ≡ Some p → p ≡ record { number = t; asked = replicate units [] }
+
+-- the logs of `count` units, in which nothing is noted
+pub record AreLogs (s : SiteRows) (count : ℕ) (logs : List LogState) : Type 0 where
+  pub count_is : length logs ≡ count
+  pub each : (unit : ℕ) (l : LogState) → slice_get logs unit ≡ Some l → l ≡ record { register = s.register unit; asked = [] }
 
 -- the takers of `count` rows, which have taken nothing
 pub record AreTakers {I : Type 0} (r : ReachedRows) (senders count : ℕ) (takers : List (Taking I)) : Type 0 where
@@ -69,7 +97,7 @@ pub record AreBooks {D : Type 0} (units : ℕ) (books : List (Book D)) : Type 0 
 
 -- a task that has sent nothing to any of these units, and collected nothing
 abbrev pub fresh_task : ℕ → ℕ → TaskState
-fresh_task units number = record { number = number; sent = replicate units []; got = [] }
+fresh_task units number = record { number = number; sent = replicate units []; got = []; asked = replicate units [] }
 
 -- tasks that have sent and collected nothing, each at the place of its number
 pub record AreTasks (count units : ℕ) (tasks : List TaskState) : Type 0 where

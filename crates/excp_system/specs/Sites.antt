@@ -4,6 +4,7 @@ use Rattle.std.specs.Prelude.{◌≡◌, ℕ, List, [], ⊤}
 use Rattle.request_piece.specs.PostedState.{PostedState}
 use Rattle.request_piece.specs.declared.piece.Piece.{Piece}
 use Rattle.fifo_row.specs.Ends.{RowName, Sending, Taking, no_name}
+use Rattle.signed_list.specs.Signed.{RegisterName, no_name as no_register}
 use Rattle.excp_system.specs.declared.item.Notice.{Notice}
 
 -- several rows that one sender reaches: how many items each holds, and which row has which tag
@@ -11,7 +12,8 @@ pub record ReachedRows : Type 0 where
   pub capacity : ℕ
   pub row : ℕ → RowName
 
--- how many tasks and units there are, how many items the rows hold, and which row is whose
+-- how many tasks and units there are, how many items the rows hold, which row is whose, and the register of each unit's
+-- controls
 pub record SiteRows : Type 0 where
   pub tasks : ℕ
   pub units : ℕ
@@ -20,6 +22,7 @@ pub record SiteRows : Type 0 where
   pub intake : ℕ → RowName
   pub post : ℕ → RowName
   pub notice : ℕ → RowName
+  pub register : ℕ → RegisterName
 
 -- the rows of no system
 abbrev pub no_rows : SiteRows
@@ -31,6 +34,7 @@ no_rows = record {
   intake = λ unit. no_name;
   post = λ task. no_name;
   notice = λ isc. no_name;
+  register = λ unit. no_register;
 }
 
 abbrev pub intake_rows : SiteRows → ReachedRows

@@ -11,6 +11,8 @@ use Rattle.fifo_row.specs.Ends.{Sending, Taking}
 use Rattle.fifo_row.specs.Lists.{of}
 use Rattle.excp_system.specs.declared.item.Notice.{Notice}
 use Rattle.excp_system.specs.Sites.{SiteRows, intake_rows, post_rows, notice_rows, for_task, taker_of, end_of}
+use Rattle.excp_system.specs.declared.control.Control.{Control}
+use Rattle.excp_system.specs.Controls.{PensState}
 use Rattle.excp_system.specs.Fans.{FanState, sent_to}
 
 -- the number of a unit, its book, the notices that it sent to the handler of its subclass, and whether it owes one
@@ -40,11 +42,12 @@ pub record IsUnit {D : Type 0} (meaning : Meaning D) (s : SiteRows) (v : Locked 
   pub notice_is : notice ≡ end_of (notice_rows s) v.unit v.book.isc v.notified
   pub of_unit : AreOf s v.unit (arrivals v.book.trace)
 
--- the number of a task, what it sent to each unit, and what it collected
+-- the number of a task, what it sent to each unit, what it collected, and the controls that it asked of each unit
 pub record TaskState : Type 0 where
   pub number : ℕ
   pub sent : List (List Piece)
   pub got : List PostedState
+  pub asked : List (List Control)
 
 -- what a task sent to a unit
 abbrev pub sent_by : TaskState → ℕ → List Piece
@@ -60,11 +63,13 @@ awaited_count t = sent_count t - length t.got
 
 -- a task is of the site, and sends each unit no more requests than there are numbers; units have 16-bit numbers; and
 -- its ends are of the rows that the site has for it
-pub record IsTask (s : SiteRows) (v : TaskState) (out : FanState Piece) (collected : Taking PostedState) : Type 0 where
+pub record IsTask (s : SiteRows) (v : TaskState) (out : FanState Piece) (collected : Taking PostedState) (pens : PensState) : Type 0 where
   pub of_site : v.number < s.tasks
   pub out_is : out ≡ record { number = v.number; sent = v.sent }
   pub collected_is : collected ≡ taker_of (post_rows s) s.units v.number v.got
+  pub pens_are : pens ≡ record { number = v.number; asked = v.asked }
   pub count : length v.sent ≡ s.units
+  pub pen_count : length v.asked ≡ s.units
   pub few_units : s.units < 2 ^ 16
   pub few : All (λ requests. length requests ≤ 2 ^ 32 - 1) v.sent
 

@@ -8,12 +8,15 @@
 #![tactic(auto)]
 
 mod balance;
+mod control;
 mod fan;
 mod gate;
 mod isc;
 mod item;
 pub mod laws;
+mod log;
 mod opening;
+mod pens;
 mod rota;
 mod rows;
 mod site;
@@ -23,10 +26,13 @@ mod unit;
 mod workers;
 
 pub use balance::drained;
+pub use control::{Control, Controlling};
 pub use fan::Fan;
 pub use gate::{Gate, OpenGate, Point, Stop};
 pub use isc::IscTaker;
 pub use item::{Notice, Returned, Sent};
+pub use log::Log;
+pub use pens::Pens;
 pub use rows::Rows;
 pub use site::{IntakeRows, Opened, PostRows, Reach, Site};
 pub use system::System;

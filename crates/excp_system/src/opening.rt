@@ -1,13 +1,19 @@
-//! Rows get their ends.
+//! Rows get their ends, and registers their pens.
 
 ghost use Rattle.std.specs.Prelude.{◌≡◌, ◌+◌, ℕ, [], Some, length, slice_get, IfOk, OnOk};
 ghost use Rattle.fifo_row.specs.Ends.{Sending};
-ghost use Rattle.excp_system.specs.Opening.{AreFans, AreRows, AreTakers};
+ghost use Rattle.signed_list.specs.Signed.{Signing};
+ghost use Rattle.excp_system.specs.Controls.{pen_of};
+ghost use Rattle.excp_system.specs.Opening.{AreFans, AreHands, AreLogs, AreRegisters, AreRows, AreTakers};
 ghost use Rattle.excp_system.specs.Sites.{end_of};
 
+use crate::control::Control;
 use crate::fan::Fan;
-use crate::site::Reach;
+use crate::log::Log;
+use crate::pens::Pens;
+use crate::site::{Reach, Site};
 use fifo_row::{Item, Row, Sender, Taker};
+use signed_list::{Pen, Register};
 use std::alloc::{AllocError, Global};
 
 /// This many fans of senders, which reach no row yet.
@@ -62,6 +68,67 @@ fn deal<'r, I: Item, F: Reach>(
     let mut number = 0;
     for end in ends {
         fans[number].push(end)?;
+        number += 1;
+    }
+    Ok(())
+}
+
+/// The pens of this many tasks, which have none yet.
+pub(crate) fn new_hands<'r, S: Site>(
+    alloc: Global,
+    count: u16,
+) -> Result<Vec<Pens<'r, S>>, AllocError>
+    ensures { IfOk result (λ hands. AreHands count 0 hands.items) }
+{
+    let mut hands = Vec::with_capacity(alloc, usize::from(count))?;
+    for number in 0..count {
+        hands.push_reserved(Pens::new(number, Vec::new(alloc)));
+    }
+    Ok(hands)
+}
+
+/// Gives the tasks their pens of all registers, and answers the logs of the units in order. If memory runs out, some tasks
+/// have their pens and some do not.
+pub(crate) fn seat_registers<'r, S: Site>(
+    alloc: Global,
+    registers: &'r mut Vec<Register<Control>>,
+    tasks: u16,
+    hands: &mut Vec<Pens<'r, S>>,
+) -> Result<Vec<Log<'r, S>>, AllocError>
+    requires tasks { tasks ≡ S.rows.tasks }
+    requires registers { AreRegisters S.rows tasks registers.old.items }
+    requires hands { AreHands tasks 0 hands.old.items }
+    ensures hands { OnOk result (AreHands tasks (length registers.old.items) hands.new.items) }
+    ensures logs { IfOk result (λ logs. AreLogs S.rows (length registers.old.items) logs.items) }
+{
+    let mut logs = Vec::with_capacity(alloc, registers.len())?;
+    let registers = registers.as_mut_slice().iter_mut();
+    for register in registers {
+        let place = logs.len();
+        let (mut pens, list) = register.ends()?;
+        let Some(own) = pens.pop() else {
+            unreachable!()
+        };
+        hand_out(pens, place, hands)?;
+        logs.push(Log::new(list, own))?;
+    }
+    Ok(logs)
+}
+
+/// Gives each task its pen of the register at this place.
+fn hand_out<'r, S: Site>(
+    pens: Vec<Pen<'r, Control>>,
+    place: usize,
+    hands: &mut Vec<Pens<'r, S>>,
+) -> Result<(), AllocError>
+    requires hands { AreHands (length pens.items) place hands.old.items }
+    requires pens { (t : ℕ) (p : Signing Control) → slice_get pens.items t ≡ Some p → p ≡ pen_of S.rows t place [] }
+    ensures { OnOk result (AreHands (length pens.entry.items) (place + 1) hands.new.items) }
+{
+    let _ = place;
+    let mut number = 0;
+    for pen in pens {
+        hands[number].push(pen)?;
         number += 1;
     }
     Ok(())

@@ -1,14 +1,18 @@
 //! The rows of a system.
 
 ghost use Rattle.std.specs.Prelude.{◌≡◌, ◌<◌, ◌≤◌, ◌^◌, IfOk};
-ghost use Rattle.excp_system.specs.Opening.{AreFans, AreFresh, ArePlain, AreTakers, site_of};
+ghost use Rattle.excp_system.specs.Opening.{AreBlank, AreFans, AreFresh, AreHands, AreLogs, ArePlain, AreTakers, site_of};
 ghost use Rattle.excp_system.specs.Sites.{intake_rows, notice_rows, post_rows};
 
+use crate::control::Control;
 use crate::fan::Fan;
 use crate::item::{Notice, Returned, Sent};
-use crate::opening::{new_fans, seat_rows};
+use crate::log::Log;
+use crate::opening::{new_fans, new_hands, seat_registers, seat_rows};
+use crate::pens::Pens;
 use crate::site::{IntakeRows, NoticeRows, PostRows, Site};
 use fifo_row::{Item, Row, Taker};
+use signed_list::Register;
 use std::alloc::{AllocError, Global};
 use std::marker::Model;
 
@@ -16,7 +20,8 @@ use std::marker::Model;
 pub(crate) const SUBCLASSES: u16 = 8;
 
 /// The rows of a system: an intake row for each unit, a post row for each task, and a notice row for each interruption
-/// subclass. A row's tag is the number of that unit, task or subclass.
+/// subclass. A row's tag is the number of that unit, task or subclass. With them goes a register for each unit, of the
+/// controls that are asked of it.
 #[derive(Drop)]
 pub struct Rows {
     tasks: u16,
@@ -26,6 +31,7 @@ pub struct Rows {
     intake: Vec<Row<Sent>>,
     post: Vec<Row<Returned>>,
     notice: Vec<Row<Notice>>,
+    registers: Vec<Register<Control>>,
 }
 
 impl Model for Rows {
@@ -41,6 +47,7 @@ impl Model for Rows {
       intake = r.intake.items;
       post = r.post.items;
       notice = r.notice.items;
+      registers = r.registers.items;
     } };
 }
 
@@ -72,6 +79,7 @@ impl Rows {
             intake: new_rows(alloc, units, tasks, intake)?,
             post: new_rows(alloc, tasks, units, post)?,
             notice: new_rows(alloc, SUBCLASSES, units, usize::from(units))?,
+            registers: new_registers(alloc, units, tasks)?,
         })
     }
 
@@ -95,6 +103,8 @@ impl Rows {
         let collected = seat_rows(alloc, &mut self.post, units, &mut back)?;
         let mut notice = new_fans::<Notice, NoticeRows<S>>(alloc, units)?;
         let handled = seat_rows(alloc, &mut self.notice, units, &mut notice)?;
+        let mut hands = new_hands::<S>(alloc, tasks)?;
+        let logs = seat_registers(alloc, &mut self.registers, tasks, &mut hands)?;
         Ok(Ends {
             out,
             collected,
@@ -102,13 +112,15 @@ impl Rows {
             back,
             notice,
             handled,
+            hands,
+            logs,
         })
     }
 }
 
 /// The ends of all rows of a site, which were not used yet. The tasks have ends of the intake rows and of their post
 /// rows. The units have ends of their intake rows, of the post rows and of the notice rows. The handlers have ends of
-/// the notice rows.
+/// the notice rows. The tasks have pens of the units' registers, which have their lists in the units' logs.
 #[derive(Drop)]
 pub(crate) struct Ends<'r, S: Site> {
     pub(crate) out: Vec<Fan<'r, Sent, IntakeRows<S>>>,
@@ -117,6 +129,8 @@ pub(crate) struct Ends<'r, S: Site> {
     pub(crate) back: Vec<Fan<'r, Returned, PostRows<S>>>,
     pub(crate) notice: Vec<Fan<'r, Notice, NoticeRows<S>>>,
     pub(crate) handled: Vec<Taker<'r, Notice>>,
+    pub(crate) hands: Vec<Pens<'r, S>>,
+    pub(crate) logs: Vec<Log<'r, S>>,
     ghost few_units: { S.rows.units < 2 ^ 16 },
     ghost out_are: { AreFans S.rows.tasks S.rows.units out.items },
     ghost collected_are: { AreTakers (post_rows S.rows) S.rows.units S.rows.tasks collected.items },
@@ -124,6 +138,8 @@ pub(crate) struct Ends<'r, S: Site> {
     ghost back_are: { AreFans S.rows.units S.rows.tasks back.items },
     ghost notice_are: { AreFans S.rows.units 8 notice.items },
     ghost handled_are: { AreTakers (notice_rows S.rows) S.rows.units 8 handled.items },
+    ghost hands_are: { AreHands S.rows.tasks S.rows.units hands.items },
+    ghost logs_are: { AreLogs S.rows S.rows.units logs.items },
 }
 
 /// `count` rows, each with its place for its tag.
@@ -142,4 +158,20 @@ fn new_rows<I: Item + Drop>(
         rows.push_reserved(Row::new(alloc, senders, capacity, tag)?);
     }
     Ok(rows)
+}
+
+/// `count` registers, each with a pen for each of `tasks` tasks and one for the unit's own calls.
+fn new_registers(
+    alloc: Global,
+    count: u16,
+    tasks: u16,
+) -> Result<Vec<Register<Control>>, AllocError>
+    requires { tasks ≤ 64 }
+    ensures { IfOk result (λ registers. AreBlank count tasks registers.items) }
+{
+    let mut registers = Vec::with_capacity(alloc, usize::from(count))?;
+    for _ in 0..count {
+        registers.push_reserved(Register::new(alloc, tasks + 1)?);
+    }
+    Ok(registers)
 }

@@ -1,12 +1,14 @@
 //! Units under locks.
 
 ghost use Rattle.std.specs.Prelude.{◌≡◌, ◌<◌, ◌≤◌, ◌^◌, IfErr, IfOk, vec_capacity, vec_len};
-ghost use Rattle.excp_system.specs.Opening.{AreBooks, AreFans, AreFresh, AreHandlers, AreTakers, AreTasks, site_of};
+ghost use Rattle.excp_system.specs.Opening.{AreBooks, AreFans, AreFresh, AreHands, AreHandlers, AreLogs, AreTakers, AreTasks, site_of};
 ghost use Rattle.excp_system.specs.Sites.{intake_rows, notice_rows, post_rows};
 
 use crate::fan::Fan;
 use crate::isc::IscTaker;
 use crate::item::{Notice, Returned, Sent};
+use crate::log::Log;
+use crate::pens::Pens;
 use crate::rows::{Ends, Rows};
 use crate::site::{IntakeRows, NoticeRows, Opened, PostRows, Site};
 use crate::task::Task;
@@ -15,7 +17,7 @@ use device_port::Device;
 use fifo_row::Taker;
 use std::alloc::{AllocError, AllocFailed, Global};
 use std::sync::{Mutex, Wait};
-use unit_book::{Entry, Mode, Purging, UnitBook};
+use unit_book::{Mode, Purging, UnitBook};
 
 /// The units of a site, each under its lock.
 #[derive(Drop)]
@@ -74,29 +76,11 @@ impl<'r, S: Opened<D>, D: Device> System<'r, S, D> {
     ) -> Result<Vec<Result<Purging, AllocError>>, AllocError>
         ensures { IfOk result (λ answers. vec_len answers ≡ S.rows.units) }
     {
-        self.purge_task_and(rt, task, mode, |purging, _| purging)
-    }
-
-    /// Purges as [`System::purge_task`], and returns for each purged unit what `tell` returns of the purge's answer and
-    /// the unit's trace, under the same lock.
-    pub fn purge_task_and<R: Wait, T, F: Fn(Purging, &[Entry]) -> T>(
-        &self,
-        rt: &R,
-        task: u16,
-        mode: Mode,
-        tell: F,
-    ) -> Result<Vec<Result<T, AllocError>>, AllocError>
-        requires { F.IsAlwaysCallable tell }
-        ensures { IfOk result (λ answers. vec_len answers ≡ S.rows.units) }
-    {
         let count = self.locks.len();
         let mut answers = Vec::with_capacity(self.alloc, count)?;
         for place in 0..count {
             let mut unit = self.locks[place].lock(rt);
-            answers.push_reserved(match unit.purge_task(rt, task, mode) {
-                Ok(purging) => Ok(tell(purging, unit.book().trace())),
-                Err(error) => Err(error),
-            });
+            answers.push_reserved(unit.purge_task(rt, task, mode));
         }
         Ok(answers)
     }
@@ -125,9 +109,11 @@ struct UnitEnds<'r, S: Site> {
     intake: Vec<Taker<'r, Sent>>,
     back: Vec<Fan<'r, Returned, PostRows<S>>>,
     notice: Vec<Fan<'r, Notice, NoticeRows<S>>>,
+    logs: Vec<Log<'r, S>>,
     ghost intake_are: { AreTakers (intake_rows S.rows) S.rows.tasks S.rows.units intake.items },
     ghost back_are: { AreFans S.rows.units S.rows.tasks back.items },
     ghost notice_are: { AreFans S.rows.units 8 notice.items },
+    ghost logs_are: { AreLogs S.rows S.rows.units logs.items },
 }
 
 /// The ends of the units of these rows, which are those of the site, with its tasks and the takers of its notices.
@@ -147,31 +133,36 @@ fn make_ends<'r, S: Site>(
         back,
         notice,
         handled,
+        hands,
+        logs,
     } = rows.seats::<S>(alloc)?;
-    let tasks = make_tasks(alloc, out, collected)?;
+    let tasks = make_tasks(alloc, out, collected, hands)?;
     let handlers = make_handlers(alloc, handled)?;
     let ends = UnitEnds {
         intake,
         back,
         notice,
+        logs,
     };
     Ok((ends, tasks, handlers))
 }
 
-/// The tasks that these ends are of.
+/// The tasks that these ends and pens are of.
 fn make_tasks<'r, S: Site>(
     alloc: Global,
     out: Vec<Fan<'r, Sent, IntakeRows<S>>>,
     collected: Vec<Taker<'r, Returned>>,
+    hands: Vec<Pens<'r, S>>,
 ) -> Result<Vec<Task<'r, S>>, AllocError>
     requires few_units { S.rows.units < 2 ^ 16 }
     requires out { AreFans S.rows.tasks S.rows.units out.items }
     requires collected { AreTakers (post_rows S.rows) S.rows.units S.rows.tasks collected.items }
+    requires hands { AreHands S.rows.tasks S.rows.units hands.items }
     ensures { IfOk result (λ tasks. AreTasks S.rows.tasks S.rows.units tasks.items) }
 {
     let mut tasks = Vec::new(alloc);
-    for (fan, taker) in out.into_iter().zip(collected) {
-        tasks.push(Task::new(fan.number(), fan, taker))?;
+    for ((fan, taker), pens) in out.into_iter().zip(collected).zip(hands) {
+        tasks.push(Task::new(fan.number(), fan, taker, pens))?;
     }
     Ok(tasks)
 }
@@ -205,10 +196,11 @@ fn lock_units<'r, S: Opened<D>, D: Device>(
     requires room { S.rows.units ≤ vec_capacity locks }
     ensures { vec_len result ≡ S.rows.units }
 {
-    let rows = ends.intake.into_iter().zip(ends.back).zip(ends.notice);
-    for (book, ((intake, back), notice)) in books.into_iter().zip(rows) {
+    let rows = ends.intake.into_iter().zip(ends.back);
+    let rows = rows.zip(ends.notice).zip(ends.logs);
+    for (book, (((intake, back), notice), log)) in books.into_iter().zip(rows) {
         let notice = notice.into_end(u16::from(book.isc()));
-        let unit = UnitState::new(back.number(), book, intake, back, notice);
+        let unit = UnitState::new(back.number(), book, intake, back, notice, log);
         locks.push_reserved(Mutex::new(unit));
     }
     locks

@@ -1,26 +1,35 @@
 //! A task's ends of the rows.
 
-ghost use Rattle.std.specs.Prelude.{◌≡◌, ◌<◌, ◌≤◌, ◌-◌, ◌^◌, length, IfErr, IfNone, IfSome, OnErr, OnOk};
+ghost use Rattle.std.specs.Prelude.{◌≡◌, ◌<◌, ◌≤◌, ◌-◌, ◌^◌, length, IfErr, IfNone, IfOk, IfSome, OnErr, OnOk};
 ghost use Rattle.std.specs.List.{All};
 ghost use Rattle.fifo_row.specs.Lists.{of};
-ghost use Rattle.excp_system.specs.Calls.{TaskCollects, IntakeWasFull, Issues, PostRowWasEmpty, next_name};
+ghost use Rattle.excp_system.specs.Controls.{ControlRefused, ControlsBook};
+ghost use Rattle.excp_system.specs.Notices.{Notifies, became_pending};
+ghost use Rattle.excp_system.specs.Calls.{Asks, TaskCollects, IntakeWasFull, Issues, PostRowWasEmpty, next_name};
 ghost use Rattle.excp_system.specs.Sites.{unit_of};
 ghost use Rattle.excp_system.specs.States.{IsTask, sent_by};
 
+use crate::control::{Control, Controlling};
 use crate::fan::Fan;
 use crate::item::{Returned, Sent};
-use crate::site::{IntakeRows, Site};
+use crate::pens::Pens;
+use crate::site::{IntakeRows, Opened, Site};
+use crate::unit::UnitState;
+use device_port::Device;
 use fifo_row::{Full, Taker};
 use request_piece::{Name, Posted, Request};
 use std::marker::Model;
 use std::sync::Wait;
+use unit_book::DcbError;
 
-/// A task. Contracts see its number, what it sent to each unit, and what it collected.
+/// A task. Contracts see its number, what it sent to each unit, what it collected, and the controls that it asked of each
+/// unit.
 #[derive(Drop)]
 pub struct Task<'r, S: Site> {
     number: u16,
     out: Fan<'r, Sent, IntakeRows<S>>,
     collected: Taker<'r, Returned>,
+    pens: Pens<'r, S>,
 }
 
 impl<'r, S: Site> Model for Task<'r, S> {
@@ -28,25 +37,27 @@ impl<'r, S: Site> Model for Task<'r, S> {
 
     ghost Value = { TaskState };
 
-    ghost view = { λ t. record { number = t.number; sent = t.out.sent; got = t.collected.taken } };
+    ghost view = { λ t. record { number = t.number; sent = t.out.sent; got = t.collected.taken; asked = t.pens.asked } };
 
-    ghost invariant = { λ t. IsTask S.rows (record { number = t.number; sent = t.out.sent; got = t.collected.taken }) t.out t.collected };
+    ghost invariant = { λ t. IsTask S.rows (record { number = t.number; sent = t.out.sent; got = t.collected.taken; asked = t.pens.asked }) t.out t.collected t.pens };
 }
 
 impl<'r, S: Site> Task<'r, S> {
-    /// The task with this number and these ends.
+    /// The task with this number, these ends and these pens.
     pub(crate) fn new(
         number: u16,
         out: Fan<'r, Sent, IntakeRows<S>>,
         collected: Taker<'r, Returned>,
+        pens: Pens<'r, S>,
     ) -> Task<'r, S>
-        requires { IsTask S.rows (record { number = number; sent = out.sent; got = collected.taken }) out collected }
-        ensures { result ≡ record { number = number; sent = out.entry.sent; got = collected.entry.taken } }
+        requires { IsTask S.rows (record { number = number; sent = out.sent; got = collected.taken; asked = pens.asked }) out collected pens }
+        ensures { result ≡ record { number = number; sent = out.entry.sent; got = collected.entry.taken; asked = pens.entry.asked } }
     {
         Task {
             number,
             out,
             collected,
+            pens,
         }
     }
 
@@ -137,15 +148,44 @@ impl<'r, S: Site> Task<'r, S> {
         }
     }
 
-    /// Its ends of the intake rows, and its end of its post row.
-    pub fn into_parts(self) -> (Fan<'r, Sent, IntakeRows<S>>, Taker<'r, Returned>)
-        ensures { IsTask S.rows self.entry result.0 result.1 }
+    /// Asks a control of a unit whose lock is held. If that halts the active program, the unit's interruption handler gets
+    /// a notice. Whatever other threads do, the control is in the unit's trace or found its DCB closed there, with the other
+    /// controls of the task in the order in which it asked them.
+    ///
+    /// Errors: those of the book, which change nothing. Unless memory ran out, the control was asked.
+    pub fn control<D: Device, R: Wait>(
+        &mut self,
+        rt: &R,
+        unit: &mut UnitState<'_, S, D>,
+        control: Control,
+    ) -> Result<Controlling, DcbError>
+    where
+        S: Opened<D>,
+        ensures asked { Asks result self.old unit.old.unit control self.new }
+        ensures ok { IfOk result (λ answer. ControlsBook D.meaning unit.old.book control answer unit.new.book) }
+        ensures refused { IfErr result (ControlRefused unit.old.book control) }
+        ensures err { OnErr result (unit.new ≡ unit.old) }
+        ensures notice { Notifies S.rows (became_pending D.meaning unit.old.book unit.new.book) unit.old unit.new }
+    {
+        unit.control(rt, &mut self.pens, control)
+    }
+
+    /// Its ends of the intake rows, its end of its post row, and its pens.
+    pub fn into_parts(
+        self,
+    ) -> (
+        Fan<'r, Sent, IntakeRows<S>>,
+        Taker<'r, Returned>,
+        Pens<'r, S>,
+    )
+        ensures { IsTask S.rows self.entry result.0 result.1 result.2 }
     {
         let Task {
             number: _,
             out,
             collected,
+            pens,
         } = self;
-        (out, collected)
+        (out, collected, pens)
     }
 }

@@ -9,6 +9,7 @@ ghost use Rattle.unit_book.specs.Legal.{Legal, Settled};
 ghost use Rattle.unit_book.specs.Posts.{posted};
 ghost use Rattle.unit_book.specs.Trace.{arrivals, arrived_of};
 ghost use Rattle.excp_system.specs.Begun.{Began};
+ghost use Rattle.excp_system.specs.Controls.{KeepsLog};
 ghost use Rattle.excp_system.specs.RowCalls.{UnitDelivers, TakesIn};
 ghost use Rattle.excp_system.specs.Fans.{sent_to};
 ghost use Rattle.excp_system.specs.Sites.{end_of, for_task, intake_rows, notice_rows, taker_of};
@@ -16,6 +17,7 @@ ghost use Rattle.excp_system.specs.States.{AreOf, IsUnit, owing_nothing};
 
 use crate::fan::Fan;
 use crate::item::{Notice, Returned, Sent};
+use crate::log::Log;
 use crate::site::{Opened, PostRows};
 use device_port::Device;
 use fifo_row::{Full, Sender, Taker};
@@ -24,8 +26,8 @@ use std::marker::{Model, PhantomData};
 use std::sync::Wait;
 use unit_book::{Delivery, Intake, UnitBook};
 
-/// A unit's book with its ends of the rows. Contracts see the unit's number, the book, the notices that it sent, and
-/// whether it owes one.
+/// A unit's book with its ends of the rows, and the log of its controls. Contracts see the unit's number, the book, the
+/// notices that it sent, and whether it owes one.
 #[derive(Drop)]
 pub struct UnitState<'r, S: Opened<D>, D: Device> {
     unit: u16,
@@ -33,6 +35,7 @@ pub struct UnitState<'r, S: Opened<D>, D: Device> {
     intake: Taker<'r, Sent>,
     back: Fan<'r, Returned, PostRows<S>>,
     notice: Sender<'r, Notice>,
+    log: Log<'r, S>,
     /// Whether a notice is to be sent at the next `run`.
     owes: bool,
     of: PhantomData<S>,
@@ -40,6 +43,7 @@ pub struct UnitState<'r, S: Opened<D>, D: Device> {
 
 impl<'r, S: Opened<D>, D: Device> Model for UnitState<'r, S, D> {
     ghost use Rattle.excp_system.specs.Begun.{Began};
+    ghost use Rattle.excp_system.specs.Controls.{KeepsLog};
     ghost use Rattle.excp_system.specs.States.{IsUnit, Locked};
 
     ghost Value = { Locked D };
@@ -47,20 +51,22 @@ impl<'r, S: Opened<D>, D: Device> Model for UnitState<'r, S, D> {
     ghost view = { λ u. record { unit = u.unit; book = u.book; notified = u.notice.sent; owes = u.owes } };
 
     ghost invariant = { λ u. IsUnit D.meaning S.rows (record { unit = u.unit; book = u.book; notified = u.notice.sent; owes = u.owes }) u.intake u.back u.notice
-        × Began S.opened u.unit u.book };
+        × Began S.opened u.unit u.book × KeepsLog S.rows u.unit u.log u.book.trace };
 }
 
 impl<'r, S: Opened<D>, D: Device> UnitState<'r, S, D> {
-    /// The unit with this number, book and ends, which owes no notice. The book is the one that was handed in for it.
+    /// The unit with this number, book, ends and log, which owes no notice. The book is the one that was handed in for it.
     pub(crate) fn new(
         unit: u16,
         book: UnitBook<D>,
         intake: Taker<'r, Sent>,
         back: Fan<'r, Returned, PostRows<S>>,
         notice: Sender<'r, Notice>,
+        log: Log<'r, S>,
     ) -> UnitState<'r, S, D>
         requires ends { IsUnit D.meaning S.rows (owing_nothing unit book notice.sent) intake back notice }
         requires opened { slice_get S.opened unit ≡ Some book }
+        requires log { KeepsLog S.rows unit log book.trace }
         ensures { result ≡ owing_nothing unit book notice.entry.sent }
     {
         UnitState {
@@ -69,6 +75,7 @@ impl<'r, S: Opened<D>, D: Device> UnitState<'r, S, D> {
             intake,
             back,
             notice,
+            log,
             owes: false,
             of: PhantomData,
         }
@@ -189,7 +196,8 @@ impl<'r, S: Opened<D>, D: Device> UnitState<'r, S, D> {
         }
     }
 
-    /// The book, the end of the intake row, those of the post rows and that of the notice row. It takes no memory.
+    /// The book, the end of the intake row, those of the post rows and that of the notice row, and the log, which has the
+    /// controls of the trace. It takes no memory.
     pub fn into_parts(
         self,
     ) -> (
@@ -197,8 +205,10 @@ impl<'r, S: Opened<D>, D: Device> UnitState<'r, S, D> {
         Taker<'r, Sent>,
         Fan<'r, Returned, PostRows<S>>,
         Sender<'r, Notice>,
+        Log<'r, S>,
     )
         ensures book { result.0 ≡ self.entry.book }
+        ensures log { KeepsLog S.rows self.entry.unit result.4 self.entry.book.trace }
         ensures ends { IsUnit D.meaning S.rows self.entry result.1 result.2 result.3 }
     {
         let UnitState {
@@ -207,9 +217,10 @@ impl<'r, S: Opened<D>, D: Device> UnitState<'r, S, D> {
             intake,
             back,
             notice,
+            log,
             owes: _,
             of: _,
         } = self;
-        (book, intake, back, notice)
+        (book, intake, back, notice, log)
     }
 }

@@ -13,15 +13,15 @@ use crate::command_fault::CommandFault;
 use crate::notes::Notes;
 use crate::task_end::TaskEnd;
 use crate::task_error::TaskError;
-use crate::unit_calls::{close, purge, purge_task, reset};
+use crate::unit_calls::{control, purge_task};
 use any_device::AnyDevice;
 use crossbeam_utils::Backoff;
-use excp_system::{Opened, System};
+use excp_system::{Control, Opened, System};
 use fifo_row::Full;
 use job_mount::request;
 use job_script::{Action, Command, Excp, Script};
 use post_lines::Slots;
-use request_piece::{Posted, Request};
+use request_piece::{Posted, Request, Scope};
 use std::alloc::{AllocError, Global};
 use std::sync::Wait;
 use system_threads::{Alarm, Client};
@@ -148,10 +148,22 @@ impl<'a, 'r, S: Opened<AnyDevice>> Job<'a, 'r, S> {
     {
         match &command.action {
             Action::Excp(excp) => self.issue(rt, alloc, client, slots, notes, excp)?,
-            Action::Purge(dcb, mode) => purge(rt, self.system, *dcb, *mode, notes)?,
-            Action::PurgeTask(task, mode) => purge_task(rt, self.system, *task, *mode, notes)?,
-            Action::Close(dcb) => close(rt, self.system, *dcb, notes)?,
-            Action::Reset(dcb) => reset(rt, self.system, *dcb, notes)?,
+            Action::Purge(dcb, mode) => {
+                let purge = Control::Purge(Scope::Dcb(dcb.number), *mode);
+                control(rt, self.system, client, dcb.unit, purge, notes)?;
+            }
+            Action::PurgeTask(task, mode) => {
+                let units = self.script.set_up.units.len();
+                purge_task(rt, self.system, client, units, *task, *mode, notes)?;
+            }
+            Action::Close(dcb) => {
+                let close = Control::Close(dcb.number);
+                control(rt, self.system, client, dcb.unit, close, notes)?;
+            }
+            Action::Reset(dcb) => {
+                let reset = Control::Reset(dcb.number);
+                control(rt, self.system, client, dcb.unit, reset, notes)?;
+            }
             Action::Wait => {
                 notes.waits();
                 self.collect(rt, client, slots, notes)?;

@@ -19,8 +19,8 @@ use Rattle.excp_system.specs.Begun.{AreBegun, Began}
 use Rattle.excp_system.specs.Drained.{ArePlaced, Drained, IsDrained}
 use Rattle.excp_system.specs.Sites.{SiteRows, task_of, for_task}
 use Rattle.excp_system.specs.States.{AreOf, Locked, TaskState}
-use Rattle.post_ledger.specs.Parting.{AreSettled, BookKeeps, book_of}
-use Rattle.post_ledger.specs.Report.{AreIdle, AreLegal, AreOfTasks, PostedOnce, Received, ReportState, ReturnedRest}
+use Rattle.post_ledger.specs.Parting.{AreControlled, AreSettled, BookKeeps, ControlledBy, book_of}
+use Rattle.post_ledger.specs.Report.{AreIdle, AreLegal, AreOfTasks, Controls, PostedOnce, Received, ReportState, ReturnedRest}
 use Rattle.post_ledger.specs.Work.{list_of, lists_of}
 use Rattle.post_ledger.proofs.Pairs.{all_get, all_map, all_weaker, get_map}
 
@@ -56,6 +56,11 @@ module _ {D : Type 0} (meaning : Meaning D) (units : List (Locked D)) (tasks : L
       (all_weaker (λ (v : Locked D). AreOf s v.unit (arrivals v.book.trace)) (λ (v : Locked D). Of v.book) units
       (λ v of. Each-weaker (λ (r : Piece). (r.name.task < s.tasks) × (r.unit ≡ v.unit)) (λ (r : Piece). task_of r < s.tasks)
       (λ r is. is.0) (arrivals v.book.trace) of) all))
+
+  pub controls : AreControlled units tasks → Controls report tasks
+  controls controlled u b e =
+      let v = unit_at u b e in
+      subst (λ (x : Book D). ControlledBy u x.trace tasks) (sym v.2) (controlled u v.0 v.1)
 
   module _ (settled : AreSettled meaning units tasks) where
     pub received : Received report tasks

@@ -10,10 +10,11 @@ use Rattle.unit_book.specs.Lists.{Each}
 use Rattle.unit_book.specs.WorldLaws.{posts_of}
 use Rattle.fifo_row.specs.Lists.{of}
 use Rattle.fifo_row.proofs.Filters.{of-append}
+use Rattle.excp_system.specs.Controls.{asked_of}
 use Rattle.excp_system.specs.Sites.{unit_of}
 use Rattle.excp_system.specs.States.{Locked, TaskState, sent_by}
 use Rattle.post_ledger.specs.Parting.{Paired, book_of}
-use Rattle.post_ledger.specs.Report.{PostedOnce, Received, ReportState, ReturnedRest}
+use Rattle.post_ledger.specs.Report.{Controls, PostedOnce, Received, ReportState, ReturnedRest}
 use Rattle.post_ledger.specs.Work.{CollectsAll, Gathers, Grew, Works, list_of, lists_of}
 use Rattle.post_ledger.proofs.Pairs.{get_map, get_there}
 
@@ -26,6 +27,16 @@ module _ {D : Type 0} (units : ℕ) (first tasks : List TaskState) (before after
 
   pub received_first : Received report tasks → Received report first
   received_first r u t b w e e' = let v = later t w e' in r u t b v.0 e v.1 ∙ ap (λ (x : TaskState). sent_by x u) v.2.task
+
+  pub controls_first : Controls report tasks → Controls report first
+  controls_first r u b e =
+      let known = r u b e in
+      record {
+        asked = known.asked;
+        controlled = known.controlled;
+        by_tasks = λ t w e'. let v = later t w e' in known.by_tasks t v.0 v.1 ∙ ap (λ (x : TaskState). asked_of x.asked u) v.2.task;
+        no_other = λ k lt. known.no_other k (omega (arith, lt, c.count));
+      }
 
   pub posted_first : PostedOnce report tasks → PostedOnce report first
   posted_first p u t b w e e' = let v = later t w e' in subst (λ (x : TaskState). Each (λ r. posts_of r.name b.trace ≡ 1) (sent_by x u))

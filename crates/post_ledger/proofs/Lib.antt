@@ -4,4 +4,5 @@ pub mod Joins
 pub mod Parts
 pub mod Works
 pub mod Closing
+pub mod Audits
 pub mod Endings

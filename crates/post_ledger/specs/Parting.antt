@@ -1,8 +1,9 @@
 -- UNITS AND TASKS AND THEIR ENDS OF THE ROWS (profile).
-use Rattle.std.specs.Prelude.{◌≡◌, ◌<◌, ℕ, List, length, ◌++◌, Some, slice_get}
+use Rattle.std.specs.Prelude.{◌≡◌, ◌<◌, ℕ, List, [], length, ◌++◌, Some, slice_get}
 use Rattle.device_port.specs.Meaning.{Meaning}
 use Rattle.request_piece.specs.PostedState.{PostedState}
 use Rattle.request_piece.specs.declared.piece.Piece.{Piece}
+use Rattle.unit_book.specs.declared.entry.Entry.{Entry}
 use Rattle.unit_book.specs.Book.{Book, given}
 use Rattle.unit_book.specs.Legal.{Legal}
 use Rattle.unit_book.specs.Posts.{posted}
@@ -10,6 +11,9 @@ use Rattle.unit_book.specs.Trace.{arrivals}
 use Rattle.fifo_row.specs.Ends.{Taking}
 use Rattle.fifo_row.specs.Lists.{of}
 use Rattle.excp_system.specs.Sites.{SiteRows, intake_rows, post_rows, task_of, unit_of, for_task, taker_of}
+use Rattle.signed_list.specs.Signed.{items_of, signed_by}
+use Rattle.excp_system.specs.declared.control.Control.{Control}
+use Rattle.excp_system.specs.Controls.{Controlled, KeepsLog, LogState, PensState, asked_of}
 use Rattle.excp_system.specs.Fans.{FanState, sent_to}
 use Rattle.excp_system.specs.States.{Locked, TaskState, sent_by}
 
@@ -28,6 +32,22 @@ post_end s w = taker_of (post_rows s) s.units w.number w.got
 -- a task's ends of the intake rows
 abbrev pub out_of : TaskState → FanState Piece
 out_of w = record { number = w.number; sent = w.sent }
+
+-- a task's pens
+abbrev pub hand_of : TaskState → PensState
+hand_of w = record { number = w.number; asked = w.asked }
+
+-- a unit's log
+abbrev pub IsLogOf : {D : Type 0} → SiteRows → Locked D → LogState → Type 0
+IsLogOf s v l = KeepsLog s v.unit l v.book.trace
+
+-- WHOSE THE CONTROLS OF A TRACE are, at a unit: those of each of the tasks that it asked of the unit, in order, and else
+-- those of the unit's own calls, under the number after those of the tasks
+pub record ControlledBy (unit : ℕ) (H : List Entry) (tasks : List TaskState) : Type 0 where
+  pub asked : List (ℕ × Control)
+  pub controlled : Controlled (items_of asked) H
+  pub by_tasks : (t : ℕ) (w : TaskState) → slice_get tasks t ≡ Some w → signed_by t asked ≡ asked_of w.asked unit
+  pub no_other : (k : ℕ) → length tasks < k → signed_by k asked ≡ []
 
 -- one value of another list for each
 pub record Paired {A B : Type 0} (P : A → B → Type 0) (xs : List A) (ys : List B) : Type 0 where
@@ -51,3 +71,7 @@ module _ {D : Type 0} (meaning : Meaning D) where
   AreSettled units tasks = (u t : ℕ) (v : Locked D) (w : TaskState) →
       slice_get units u ≡ Some v → slice_get tasks t ≡ Some w →
       (of task_of t (arrivals v.book.trace) ≡ sent_by w u) × (of unit_of u w.got ≡ of for_task t (given meaning v.book))
+
+-- of each unit: whose its controls are
+abbrev pub AreControlled : {D : Type 0} → List (Locked D) → List TaskState → Type 0
+AreControlled {D} units tasks = (u : ℕ) (v : Locked D) → slice_get units u ≡ Some v → ControlledBy u v.book.trace tasks

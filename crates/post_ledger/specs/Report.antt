@@ -14,6 +14,7 @@ use Rattle.unit_book.specs.WorldLaws.{posts_of}
 use Rattle.fifo_row.specs.Lists.{of}
 use Rattle.excp_system.specs.Sites.{task_of, unit_of, for_task}
 use Rattle.excp_system.specs.States.{TaskState, sent_by}
+use Rattle.post_ledger.specs.Parting.{ControlledBy}
 use Rattle.post_ledger.specs.Work.{list_of, lists_of}
 
 -- the book of each unit; and for each task a list for each unit, of the posted values that the task had not collected
@@ -59,6 +60,10 @@ module _ {D : Type 0} (meaning : Meaning D) where
   ReturnedRest lists report tasks =
       OfEach (λ u t b w. (before : List PostedState) → of unit_of u w.got ≡ before ++ list_of (lists_of lists t) u →
       before ++ list_at report t u ≡ of for_task t (posted meaning b.mounted b.trace)) report tasks
+
+-- CONTROLLED: the purges, closes and resets of a unit are those that the tasks asked of it, and those of its own calls
+abbrev pub Controls : {D : Type 0} → ReportState D → List TaskState → Type 0
+Controls {D} report tasks = (u : ℕ) (b : Book D) → slice_get report.books u ≡ Some b → ControlledBy u b.trace tasks
 
 -- what arrived at each unit is of tasks below this number
 abbrev pub AreOfTasks : {D : Type 0} → ℕ → ReportState D → Type 0

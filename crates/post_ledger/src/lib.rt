@@ -8,6 +8,7 @@
 //! Tests: system_tests (`endings`), tests/mutants/post_ledger.
 #![tactic(auto)]
 
+mod audit;
 mod cause;
 mod drain;
 mod join;

@@ -6,11 +6,14 @@ ghost use Rattle.unit_book.specs.Trace.{arrivals};
 ghost use Rattle.excp_system.specs.Begun.{Began};
 ghost use Rattle.excp_system.specs.Drained.{ArePlaced, Drained};
 ghost use Rattle.excp_system.specs.States.{AreOf};
-ghost use Rattle.post_ledger.specs.Parting.{AreSettled, IsBack, BookKeeps, Paired, book_of, intake_end, out_of, post_end};
+ghost use Rattle.post_ledger.specs.Parting.{AreControlled, AreSettled, IsBack, IsLogOf, BookKeeps, Paired, book_of, hand_of, intake_end, out_of, post_end};
 
+use crate::audit::audit_all;
 use crate::join::join_rows;
 use device_port::Device;
-use excp_system::{Fan, IntakeRows, Opened, PostRows, Returned, Sent, Site, Task, UnitState};
+use excp_system::{
+    Fan, IntakeRows, Log, Opened, Pens, PostRows, Returned, Sent, Site, Task, UnitState,
+};
 use fifo_row::Taker;
 use std::alloc::{AllocError, Global};
 use unit_book::UnitBook;
@@ -21,6 +24,7 @@ struct UnitParts<'r, S: Opened<D>, D: Device> {
     books: Vec<UnitBook<D>>,
     intakes: Vec<Taker<'r, Sent>>,
     backs: Vec<Fan<'r, Returned, PostRows<S>>>,
+    logs: Vec<Log<'r, S>>,
 }
 
 /// What tasks are taken apart into.
@@ -28,6 +32,7 @@ struct UnitParts<'r, S: Opened<D>, D: Device> {
 struct TaskParts<'r, S: Site> {
     outs: Vec<Fan<'r, Sent, IntakeRows<S>>>,
     collected: Vec<Taker<'r, Returned>>,
+    hands: Vec<Pens<'r, S>>,
 }
 
 /// Room for what units and tasks are taken apart into.
@@ -36,13 +41,17 @@ pub(crate) struct Room<'r, S: Opened<D>, D: Device> {
     books: Vec<UnitBook<D>>,
     intakes: Vec<Taker<'r, Sent>>,
     backs: Vec<Fan<'r, Returned, PostRows<S>>>,
+    logs: Vec<Log<'r, S>>,
     outs: Vec<Fan<'r, Sent, IntakeRows<S>>>,
     collected: Vec<Taker<'r, Returned>>,
+    hands: Vec<Pens<'r, S>>,
     ghost no_books: { (books.items ≡ []) × (S.rows.units ≤ vec_capacity books) },
     ghost no_intakes: { (intakes.items ≡ []) × (S.rows.units ≤ vec_capacity intakes) },
     ghost no_backs: { (backs.items ≡ []) × (S.rows.units ≤ vec_capacity backs) },
+    ghost no_logs: { (logs.items ≡ []) × (S.rows.units ≤ vec_capacity logs) },
     ghost no_outs: { (outs.items ≡ []) × (S.rows.tasks ≤ vec_capacity outs) },
     ghost no_collected: { (collected.items ≡ []) × (S.rows.tasks ≤ vec_capacity collected) },
+    ghost no_hands: { (hands.items ≡ []) × (S.rows.tasks ≤ vec_capacity hands) },
 }
 
 impl<'r, S: Opened<D>, D: Device> Room<'r, S, D> {
@@ -59,8 +68,10 @@ impl<'r, S: Opened<D>, D: Device> Room<'r, S, D> {
             books: Vec::with_capacity(alloc, units)?,
             intakes: Vec::with_capacity(alloc, units)?,
             backs: Vec::with_capacity(alloc, units)?,
+            logs: Vec::with_capacity(alloc, units)?,
             outs: Vec::with_capacity(alloc, tasks)?,
             collected: Vec::with_capacity(alloc, tasks)?,
+            hands: Vec::with_capacity(alloc, tasks)?,
         })
     }
 }
@@ -73,9 +84,11 @@ fn split_units<'r, S: Opened<D>, D: Device>(
     requires books { (parts.books.items ≡ []) × (vec_len units ≤ vec_capacity parts.books) }
     requires intakes { (parts.intakes.items ≡ []) × (vec_len units ≤ vec_capacity parts.intakes) }
     requires backs { (parts.backs.items ≡ []) × (vec_len units ≤ vec_capacity parts.backs) }
+    requires logs { (parts.logs.items ≡ []) × (vec_len units ≤ vec_capacity parts.logs) }
     ensures books { result.books.items ≡ map book_of units.entry.items }
     ensures intakes { result.intakes.items ≡ map (intake_end S.rows) units.entry.items }
     ensures backs { Paired (IsBack D.meaning S.rows) units.entry.items result.backs.items }
+    ensures logs { Paired (IsLogOf S.rows) units.entry.items result.logs.items }
     ensures sound { All (λ unit. BookKeeps D.meaning unit.book) units.entry.items }
     ensures began { All (λ unit. Began S.opened unit.unit unit.book) units.entry.items }
     ensures of_unit { All (λ unit. AreOf S.rows unit.unit (arrivals unit.book.trace)) units.entry.items }
@@ -84,18 +97,21 @@ fn split_units<'r, S: Opened<D>, D: Device>(
         mut books,
         mut intakes,
         mut backs,
+        mut logs,
     } = parts;
     for unit in units {
         unit.holds();
-        let (book, intake, back, _notice) = unit.into_parts();
+        let (book, intake, back, _notice, log) = unit.into_parts();
         books.push_reserved(book);
         intakes.push_reserved(intake);
         backs.push_reserved(back);
+        logs.push_reserved(log);
     }
     UnitParts {
         books,
         intakes,
         backs,
+        logs,
     }
 }
 
@@ -103,20 +119,29 @@ fn split_units<'r, S: Opened<D>, D: Device>(
 fn split_tasks<'r, S: Site>(tasks: Vec<Task<'r, S>>, parts: TaskParts<'r, S>) -> TaskParts<'r, S>
     requires outs { (parts.outs.items ≡ []) × (vec_len tasks ≤ vec_capacity parts.outs) }
     requires collected { (parts.collected.items ≡ []) × (vec_len tasks ≤ vec_capacity parts.collected) }
+    requires hands { (parts.hands.items ≡ []) × (vec_len tasks ≤ vec_capacity parts.hands) }
     ensures outs { result.outs.items ≡ map out_of tasks.entry.items }
     ensures collected { result.collected.items ≡ map (post_end S.rows) tasks.entry.items }
     ensures counts { All (λ task. length task.sent ≡ S.rows.units) tasks.entry.items }
+    ensures hands { result.hands.items ≡ map hand_of tasks.entry.items }
+    ensures pens { All (λ task. length task.asked ≡ S.rows.units) tasks.entry.items }
 {
     let TaskParts {
         mut outs,
         mut collected,
+        mut hands,
     } = parts;
     for task in tasks {
-        let (out, end) = task.into_parts();
+        let (out, end, pens) = task.into_parts();
         outs.push_reserved(out);
         collected.push_reserved(end);
+        hands.push_reserved(pens);
     }
-    TaskParts { outs, collected }
+    TaskParts {
+        outs,
+        collected,
+        hands,
+    }
 }
 
 /// Joins all rows of a system from which all was taken, and gives the books. It takes no memory, and cannot be refused.
@@ -133,31 +158,45 @@ pub(crate) fn join_all<'r, S: Opened<D>, D: Device>(
     ensures began { All (λ unit. Began S.opened unit.unit unit.book) units.entry.items }
     ensures of_unit { All (λ unit. AreOf S.rows unit.unit (arrivals unit.book.trace)) units.entry.items }
     ensures settled { AreSettled D.meaning units.entry.items tasks.entry.items }
+    ensures controlled { AreControlled units.entry.items tasks.entry.items }
 {
     let Room {
         books,
         intakes,
         backs,
+        logs,
         outs,
         collected,
+        hands,
     } = room;
     let UnitParts {
         books,
         intakes,
         mut backs,
+        logs,
     } = split_units(
         units,
         UnitParts {
             books,
             intakes,
             backs,
+            logs,
         },
     );
     let TaskParts {
         mut outs,
         collected,
-    } = split_tasks(tasks, TaskParts { outs, collected });
+        mut hands,
+    } = split_tasks(
+        tasks,
+        TaskParts {
+            outs,
+            collected,
+            hands,
+        },
+    );
     join_rows(intakes, &mut outs);
     join_rows(collected, &mut backs);
+    audit_all(logs, &mut hands);
     books
 }

@@ -7,7 +7,7 @@ ghost use Rattle.excp_system.specs.Begun.{AreBegun};
 ghost use Rattle.excp_system.specs.Drained.{ArePlaced, Drained};
 ghost use Rattle.post_ledger.specs.Left.{AreLists, GrewInto, IsCause, WorkOn, free_states};
 ghost use Rattle.post_ledger.specs.Parting.{Paired, book_of};
-ghost use Rattle.post_ledger.specs.Report.{AreIdle, AreLegal, AreOfTasks, IsFor, PostedOnce, Received, Returned, ReturnedRest};
+ghost use Rattle.post_ledger.specs.Report.{AreIdle, AreLegal, AreOfTasks, Controls, IsFor, PostedOnce, Received, Returned, ReturnedRest};
 ghost use Rattle.post_ledger.specs.Work.{CollectsAll, Works};
 
 use crate::cause::Cause;
@@ -123,6 +123,7 @@ impl<'r, S: Opened<D>, D: Device> Unfinished<'r, S, D> {
         ensures idle { IfOk result (λ report. AreIdle report) }
         ensures of_tasks { IfOk result (λ report. AreOfTasks S.rows.tasks report) }
         ensures received { IfOk result (λ report. Received report self.entry.tasks) }
+        ensures controlled { IfOk result (λ report. Controls report self.entry.tasks) }
         ensures posted_once { IfOk result (λ report. PostedOnce report self.entry.tasks) }
         ensures returned { IfOk result (λ report. ReturnedRest D.meaning self.entry.lists report self.entry.tasks) }
         ensures grew { IfOk result (λ report. GrewInto self.entry.units report.books) }
@@ -163,6 +164,9 @@ impl<'r, S: Opened<D>, D: Device> Unfinished<'r, S, D> {
 ///   same, and its trace has only grown.
 /// - The trace is legal, nothing waits and nothing is active.
 /// - What arrived of each task is what `excp` accepted of it there, in order. No other request arrived.
+/// - The purges, closes and resets of its trace are those that the tasks asked of it, each task's in order, and those of
+///   the unit's own calls. A close or a reset of a DCB that was not open, and a purge of one that was never opened, made no
+///   entry.
 /// - Each of these requests has just one post.
 /// - What the task had collected of the unit, and then its list in the report, is what the unit posted for it, in
 ///   order, each value as its trace gives it.
@@ -183,6 +187,7 @@ pub fn finish<'r, S: Opened<D>, D: Device, R: Wait>(
     ensures idle { IfOk result (λ report. AreIdle report) }
     ensures of_tasks { IfOk result (λ report. AreOfTasks S.rows.tasks report) }
     ensures received { IfOk result (λ report. Received report tasks.entry.items) }
+    ensures controlled { IfOk result (λ report. Controls report tasks.entry.items) }
     ensures posted_once { IfOk result (λ report. PostedOnce report tasks.entry.items) }
     ensures returned { IfOk result (λ report. Returned D.meaning report tasks.entry.items) }
     ensures collects { IfErr result (λ left. CollectsAll S.rows.units tasks.entry.items left.tasks [] left.lists) }
@@ -215,6 +220,7 @@ fn go_on<'r, S: Opened<D>, D: Device, R: Wait>(
     ensures idle { IfOk result (λ report. AreIdle report) }
     ensures of_tasks { IfOk result (λ report. AreOfTasks S.rows.tasks report) }
     ensures received { IfOk result (λ report. Received report tasks.entry.items) }
+    ensures controlled { IfOk result (λ report. Controls report tasks.entry.items) }
     ensures posted_once { IfOk result (λ report. PostedOnce report tasks.entry.items) }
     ensures returned { IfOk result (λ report. ReturnedRest D.meaning posts.items report tasks.entry.items) }
     ensures grew { IfOk result (λ report. GrewInto (Some units.entry.items) report.books) }
@@ -286,6 +292,7 @@ fn close<'r, S: Opened<D>, D: Device>(
     ensures idle { AreIdle result }
     ensures of_tasks { AreOfTasks S.rows.tasks result }
     ensures received { Received result tasks.entry.items }
+    ensures controlled { Controls result tasks.entry.items }
     ensures posted_once { PostedOnce result tasks.entry.items }
     ensures returned { ReturnedRest D.meaning posts.items result tasks.entry.items }
 {

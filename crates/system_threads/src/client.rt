@@ -3,7 +3,9 @@
 ghost use Rattle.std.specs.Prelude.{◌≡◌, ◌<◌, ◌≤◌, ◌-◌, ◌^◌, length, IfErr, IfNone, IfOk, IfSome, OnErr, OnOk};
 ghost use Rattle.std.specs.Arc.{arc_value};
 ghost use Rattle.request_piece.specs.Requests.{request_of};
-ghost use Rattle.excp_system.specs.Calls.{TaskCollects, IntakeWasFull, Issues, PostRowWasEmpty, next_name};
+ghost use Rattle.excp_system.specs.Controls.{ControlRefused, ControlsBook};
+ghost use Rattle.excp_system.specs.Notices.{Notifies, became_pending};
+ghost use Rattle.excp_system.specs.Calls.{Asks, TaskCollects, IntakeWasFull, Issues, PostRowWasEmpty, next_name};
 ghost use Rattle.excp_system.specs.States.{awaited_count, sent_by};
 ghost use Rattle.system_threads.specs.Counting.{HasCounted};
 ghost use Rattle.system_threads.specs.Issuing.{IssueRefused};
@@ -11,7 +13,8 @@ ghost use Rattle.system_threads.specs.Issuing.{IssueRefused};
 use crate::alarm::Alarm;
 use crossbeam_utils::Backoff;
 use crossbeam_utils::sync::{Parker, Unparker};
-use excp_system::{Site, Task};
+use device_port::Device;
+use excp_system::{Control, Controlling, Opened, Site, Task, UnitState};
 use fifo_row::Full;
 use io_area::Area;
 use request_piece::{Name, Posted, Request, RequestError};
@@ -19,6 +22,7 @@ use std::alloc::{AllocError, Global};
 use std::marker::Model;
 use std::sync::{Arc, Wait};
 use thiserror::Error;
+use unit_book::DcbError;
 
 /// Why a request is not issued.
 #[derive(Clone, Copy, PartialEq, Eq, Debug, Error)]
@@ -35,7 +39,7 @@ pub enum IssueError {
 }
 
 /// A task that counts how many posts it awaits, and sleeps until the next of them is there. Contracts see the task: its
-/// number, what it sent to each unit, and what it collected.
+/// number, what it sent to each unit, what it collected, and the controls that it asked of each unit.
 ///
 /// A run keeps each request as it was issued, in the trace of its unit, until its report is dropped. That of
 /// [`Client::issue`] has a copy of its area, at most 8,192 bytes. Requests of [`Client::issue_over`] share one area, so a
@@ -103,6 +107,26 @@ impl<'r, S: Site> Client<'r, S> {
         ensures last { IfNone result (2 ^ 32 - 1 ≤ length (sent_by self.now unit)) }
     {
         self.task.name(unit)
+    }
+
+    /// Asks a control of a unit whose lock is held, as [`Task::control`].
+    ///
+    /// Errors: those of the book, which change nothing. Unless memory ran out, the control was asked.
+    pub fn control<D: Device, R: Wait>(
+        &mut self,
+        rt: &R,
+        unit: &mut UnitState<'_, S, D>,
+        control: Control,
+    ) -> Result<Controlling, DcbError>
+    where
+        S: Opened<D>,
+        ensures asked { Asks result self.old unit.old.unit control self.new }
+        ensures ok { IfOk result (λ answer. ControlsBook D.meaning unit.old.book control answer unit.new.book) }
+        ensures refused { IfErr result (ControlRefused unit.old.book control) }
+        ensures err { OnErr result (unit.new ≡ unit.old) }
+        ensures notice { Notifies S.rows (became_pending D.meaning unit.old.book unit.new.book) unit.old unit.new }
+    {
+        self.task.control(rt, unit, control)
     }
 
     /// Issues a request, whose name is the next to its unit, as [`Task::excp`].

@@ -1,6 +1,6 @@
 //! The calls of a locked unit that are those of its book.
 
-ghost use Rattle.std.specs.Prelude.{◌≡◌, ◌≤◌, ◌||◌, ◌&&◌, true, [], not, is_ok, IfErr, IfOk, OnErr, OnOk};
+ghost use Rattle.std.specs.Prelude.{◌≡◌, ◌≤◌, ◌||◌, ◌&&◌, true, [], not, is_ok, length, IfErr, IfOk, OnErr, OnOk};
 ghost use Rattle.unit_book.specs.Answers.{Adds, InterruptsBook, OpenRefused, OpensBook, RunsBook, StartsBook};
 ghost use Rattle.unit_book.specs.Book.{is_pending};
 ghost use Rattle.unit_book.specs.Controls.{ClosesBook, DcbRefused, PurgesBook, ResetRefused};
@@ -8,9 +8,12 @@ ghost use Rattle.unit_book.specs.Dcbs.{is_open, is_opened};
 ghost use Rattle.unit_book.specs.Refusals.{CloseLacks, InterruptLacks, PurgeLacks, ResetLacks, RunLacks, SettleLacks, StartLacks};
 ghost use Rattle.unit_book.specs.Settle.{AddsService, Settles};
 ghost use Rattle.unit_book.specs.Trace.{active, waiting};
+ghost use Rattle.excp_system.specs.Controls.{ControlRefused, ControlsBook, asks, is_asked};
 ghost use Rattle.excp_system.specs.Notices.{InBook, Notifies, OwesIf, became_pending, leaves_pending};
 
+use crate::control::{Control, Controlling};
 use crate::item::Notice;
+use crate::pens::Pens;
 use crate::site::Opened;
 use crate::unit::UnitState;
 use device_port::Device;
@@ -20,7 +23,7 @@ use std::alloc::AllocError;
 use std::sync::Wait;
 use unit_book::{
     Closing, DcbError, Entry, Interruption, Mode, OpenError, ProcessingMethod, Purging, Running,
-    Starting,
+    Starting, UnitBook,
 };
 
 /// Whether the answer of a run tells of a status that is pending now.
@@ -30,6 +33,36 @@ fn leaves_pending(answer: Running) -> bool
     match answer {
         Running::Quiet => false,
         Running::Ran { pending, .. } => pending,
+    }
+}
+
+/// Whether a control was asked: its answer is not that memory ran out.
+fn is_asked<T>(answer: &Result<T, DcbError>) -> bool
+    ensures { result ≡ is_asked answer.now }
+{
+    !matches!(answer, Err(DcbError::NoMemory))
+}
+
+/// Does a control at a book.
+fn control_book<D: Device>(
+    book: &mut UnitBook<D>,
+    control: Control,
+) -> Result<Controlling, DcbError>
+    ensures ok { IfOk result (λ answer. ControlsBook D.meaning book.old control answer book.new) }
+    ensures refused { IfErr result (ControlRefused book.old control) }
+    ensures err { OnErr result (book.new ≡ book.old) }
+{
+    match control {
+        Control::Purge(Scope::Dcb(dcb), mode) => Ok(Controlling::Purged(book.purge(dcb, mode)?)),
+        Control::Purge(Scope::Task(task), mode) => match book.purge_task(task, mode) {
+            Ok(purging) => Ok(Controlling::Purged(purging)),
+            Err(_) => Err(DcbError::NoMemory),
+        },
+        Control::Close(dcb) => Ok(Controlling::Closed(book.close(dcb)?)),
+        Control::Reset(dcb) => {
+            book.reset(dcb)?;
+            Ok(Controlling::Reset)
+        }
     }
 }
 
@@ -107,6 +140,8 @@ impl<'r, S: Opened<D>, D: Device> UnitState<'r, S, D> {
         self.book.holds();
         let was_pending = self.book.pending();
         let answer = self.book.purge(dcb, mode);
+        let control = Control::Purge(Scope::Dcb(dcb), mode);
+        self.log.note(is_asked(&answer), control);
         let halted = !was_pending & self.book.pending();
         self.notify(rt, halted);
         answer
@@ -128,6 +163,8 @@ impl<'r, S: Opened<D>, D: Device> UnitState<'r, S, D> {
         self.book.holds();
         let was_pending = self.book.pending();
         let answer = self.book.purge_task(task, mode);
+        let control = Control::Purge(Scope::Task(task), mode);
+        self.log.note(answer.is_ok(), control);
         let halted = !was_pending & self.book.pending();
         self.notify(rt, halted);
         answer
@@ -144,7 +181,9 @@ impl<'r, S: Opened<D>, D: Device> UnitState<'r, S, D> {
         ensures rest { InBook self.old self.new }
     {
         self.book.holds();
-        self.book.close(dcb)
+        let answer = self.book.close(dcb);
+        self.log.note(is_asked(&answer), Control::Close(dcb));
+        answer
     }
 
     /// Clears the error flag of an open DCB, as [`unit_book::UnitBook::reset`].
@@ -159,7 +198,32 @@ impl<'r, S: Opened<D>, D: Device> UnitState<'r, S, D> {
         ensures rest { InBook self.old self.new }
     {
         self.book.holds();
-        self.book.reset(dcb)
+        let answer = self.book.reset(dcb);
+        self.log.note(is_asked(&answer), Control::Reset(dcb));
+        answer
+    }
+
+    /// Does a control that a task asks with its pens.
+    pub(crate) fn control<R: Wait>(
+        &mut self,
+        rt: &R,
+        pens: &mut Pens<'_, S>,
+        control: Control,
+    ) -> Result<Controlling, DcbError>
+        requires { length pens.old.asked ≡ S.rows.units }
+        ensures asked { pens.new ≡ record pens.old { asked = asks (is_asked result) self.old.unit control pens.old.asked } }
+        ensures ok { IfOk result (λ answer. ControlsBook D.meaning self.old.book control answer self.new.book) }
+        ensures refused { IfErr result (ControlRefused self.old.book control) }
+        ensures err { OnErr result (self.new ≡ self.old) }
+        ensures notice { Notifies S.rows (became_pending D.meaning self.old.book self.new.book) self.old self.new }
+    {
+        self.book.holds();
+        let was_pending = self.book.pending();
+        let answer = control_book(&mut self.book, control);
+        pens.note(self.unit, &mut self.log, is_asked(&answer), control);
+        let halted = !was_pending & self.book.pending();
+        self.notify(rt, halted);
+        answer
     }
 
     /// Starts, runs and interrupts until nothing waits or is active, as [`unit_book::UnitBook::settle`]. If memory

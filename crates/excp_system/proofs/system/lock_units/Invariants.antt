@@ -10,7 +10,8 @@ invariant-loop-book g l = record {
   few : length l.yielded ≤ g.S.Site.rows.units;
   room : g.S.Site.rows.units ≤ vec_capacity l.locks;
   books : into_iter_items (zip_first l.book-iterator) ≡ drop (length l.yielded) l.fn.books.items;
-  intakes : into_iter_items (zip_first (zip_first (zip_second l.book-iterator))) ≡ drop (length l.yielded) l.fn.ends.intake.items;
-  backs : into_iter_items (zip_second (zip_first (zip_second l.book-iterator))) ≡ drop (length l.yielded) l.fn.ends.back.items;
-  notices : into_iter_items (zip_second (zip_second l.book-iterator)) ≡ drop (length l.yielded) l.fn.ends.notice.items;
+  intakes : into_iter_items (zip_first (zip_first (zip_first (zip_second l.book-iterator)))) ≡ drop (length l.yielded) l.fn.ends.intake.items;
+  backs : into_iter_items (zip_second (zip_first (zip_first (zip_second l.book-iterator)))) ≡ drop (length l.yielded) l.fn.ends.back.items;
+  notices : into_iter_items (zip_second (zip_first (zip_second l.book-iterator))) ≡ drop (length l.yielded) l.fn.ends.notice.items;
+  logs : into_iter_items (zip_second (zip_second l.book-iterator)) ≡ drop (length l.yielded) l.fn.ends.logs.items;
 }

@@ -6,6 +6,7 @@ use Rattle.excp_system.specs.Sites.{intake_rows, post_rows, task_of, unit_of}
 use Rattle.excp_system.specs.Fans.{FanState}
 use Rattle.post_ledger.specs.Rows.{AreEnds, AllTaken}
 use Rattle.post_ledger.proofs.Parts.{intake_ends, post_ends, requests_settled, posts_settled}
+use Rattle.post_ledger.proofs.Audits.{controlled_by, hands_are, log_registers}
 use Rattle.post_ledger.proofs.parting.join_all.Goals as goal
 
 pub join_rows-requires : goal.join_rows-requires
@@ -41,3 +42,19 @@ returns-clause-settled g c =
       posts_settled g.D.Device.meaning s c.args.units.items c.args.tasks.items c.requires.units c.requires.tasks c.requires.drained
           c.split_units-books.result.backs.items a.backs second u t v w e e',
     )
+
+pub audit_all-requires-clause-logs : goal.audit_all-requires-clause-logs
+audit_all-requires-clause-logs g c =
+    log_registers g.S.Site.rows c.args.units.items c.split_units-books.result.logs.items c.requires.units c.split_units-books.ensures.logs
+
+pub audit_all-requires-clause-hands : goal.audit_all-requires-clause-hands
+audit_all-requires-clause-hands g c =
+    hands_are g.S.Site.rows c.args.units.items c.args.tasks.items c.split_units-books.result.logs.items
+    c.split_tasks-outs.result.hands.items c.requires.units c.requires.tasks c.split_units-books.ensures.logs
+    c.split_tasks-outs.ensures.hands c.split_tasks-outs.ensures.pens
+
+pub returns-clause-controlled : goal.returns-clause-controlled
+returns-clause-controlled g c =
+    controlled_by g.S.Site.rows c.args.units.items c.args.tasks.items c.split_units-books.result.logs.items
+    c.split_tasks-outs.result.hands.items c.requires.tasks c.split_units-books.ensures.logs c.split_tasks-outs.ensures.hands
+    c.audit_all.ensures

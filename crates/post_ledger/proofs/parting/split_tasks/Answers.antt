@@ -3,7 +3,7 @@ use Rattle.std.specs.Vec.Iter.{into_iter_items}
 use Rattle.std.proofs.lemmas.Grind.{common_steps}
 use Rattle.std.proofs.lemmas.List.Elements.{All-push}
 use Rattle.excp_system.specs.States.{TaskState}
-use Rattle.post_ledger.specs.Parting.{out_of, post_end}
+use Rattle.post_ledger.specs.Parting.{hand_of, out_of, post_end}
 use Rattle.post_ledger.proofs.Pairs.{map_snoc}
 use Rattle.post_ledger.proofs.parting.split_tasks.Goals as goal
 
@@ -22,8 +22,12 @@ loop-task-preserved g c =
       collected = c.push_reserved-in-loop-task.ensures.items
           ∙ map_snoc (post_end s) c.loop-task.yielded w c.loop-task.collected.items c.into_parts-out.result.1 i.collected e.collected_is;
       counts = All-push (λ (x : TaskState). length x.sent ≡ s.units) c.loop-task.yielded w i.counts e.count;
+      hands = c.push_reserved-in-loop-task-2.ensures.items
+          ∙ map_snoc hand_of c.loop-task.yielded w c.loop-task.hands.items c.into_parts-out.result.2 i.hands e.pens_are;
+      pens = All-push (λ (x : TaskState). length x.asked ≡ s.units) c.loop-task.yielded w i.pens e.pen_count;
       room = (
         omega (arith, i.room.0, c.push_reserved.ensures.capacity),
         omega (arith, i.room.1, c.push_reserved-in-loop-task.ensures.capacity),
+        omega (arith, i.room.2, c.push_reserved-in-loop-task-2.ensures.capacity),
       );
     }

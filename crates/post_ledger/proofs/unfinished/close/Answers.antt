@@ -1,6 +1,6 @@
 use Rattle.std.proofs.Common.{◌∙◌, ap}
 use Rattle.post_ledger.specs.Report.{ReportState}
-use Rattle.post_ledger.proofs.Closing.{are_begun, are_idle, are_legal, are_of_tasks, posted_once, received, returned_rest}
+use Rattle.post_ledger.proofs.Closing.{are_begun, are_idle, are_legal, are_of_tasks, controls, posted_once, received, returned_rest}
 use Rattle.post_ledger.proofs.unfinished.close.Goals as goal
 
 pub returns-clause-began : goal.returns-clause-began
@@ -22,6 +22,10 @@ returns-clause-of_tasks g c = are_of_tasks g.D.Device.meaning c.args.units.items
 pub returns-clause-received : goal.returns-clause-received
 returns-clause-received g c = received g.D.Device.meaning c.args.units.items c.args.tasks.items c.new.result
     (ap (λ (r : ReportState _). r.books) c.new.ensures ∙ c.join_all-books.ensures.books) c.join_all-books.ensures.settled
+
+pub returns-clause-controlled : goal.returns-clause-controlled
+returns-clause-controlled g c = controls g.D.Device.meaning c.args.units.items c.args.tasks.items c.new.result
+    (ap (λ (r : ReportState _). r.books) c.new.ensures ∙ c.join_all-books.ensures.books) c.join_all-books.ensures.controlled
 
 pub returns-clause-posted_once : goal.returns-clause-posted_once
 returns-clause-posted_once g c =

@@ -5,7 +5,7 @@ use Rattle.excp_system.specs.Drained.{ArePlaced}
 use Rattle.excp_system.specs.States.{Locked}
 use Rattle.post_ledger.specs.Left.{AreMixed}
 use Rattle.post_ledger.specs.Parting.{book_of}
-use Rattle.post_ledger.proofs.Endings.{grew_into, posted_first, received_first, returned_first}
+use Rattle.post_ledger.proofs.Endings.{controls_first, grew_into, posted_first, received_first, returned_first}
 use Rattle.post_ledger.proofs.Works.{placed_tasks, placed_units}
 use Rattle.post_ledger.proofs.unfinished.go_on.Goals as goal
 
@@ -45,6 +45,12 @@ returns-in-Ok-clause-received g c =
     received_first g.S.Site.rows.units c.args.tasks.items c.make_ready.new.tasks.items c.args.posts.items c.make_ready.new.posts.items
     c.make_ready.ensures.collects c.close.result
     c.close.ensures.received
+
+pub returns-in-Ok-clause-controlled : goal.returns-in-Ok-clause-controlled
+returns-in-Ok-clause-controlled g c =
+    controls_first g.S.Site.rows.units c.args.tasks.items c.make_ready.new.tasks.items c.args.posts.items c.make_ready.new.posts.items
+    c.make_ready.ensures.collects c.close.result
+    c.close.ensures.controlled
 
 pub returns-in-Ok-clause-posted_once : goal.returns-in-Ok-clause-posted_once
 returns-in-Ok-clause-posted_once g c =

@@ -16,6 +16,6 @@ invariant_of-self g c =
     ap (λ u. length (sent_to out u)) c.unit-unit.ensures ∙ ap (λ (t : TaskState). length (sent_by t unit)) c.self.view_is in
     let same : c.name-name.result.seq ≡ c.args.request.name.seq = ap (λ (n : Name). n.seq) c.name-name.ensures in
     let fits : c.name-name.result.seq < 2 ^ 32 = search rules in
-    task_sends g.S.Site.rows c.self.inside.number c.unit-unit.result out c.send.new.self c.self.inside.collected
+    task_sends g.S.Site.rows c.self.inside.number c.unit-unit.result out c.send.new.self c.self.inside.collected c.self.inside.pens
     (before ++ c.new.result ∷ []) c.send.result c.self.invariant c.send.ensures.sent c.send.ensures.unchanged
     (omega (arith, number, sent, same, fits, length-append before (c.new.result ∷ [])))

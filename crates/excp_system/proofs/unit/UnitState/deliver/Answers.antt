@@ -11,6 +11,7 @@ use Rattle.excp_system.specs.Fans.{sent_to}
 use Rattle.excp_system.specs.RowCalls.{IsFirst}
 use Rattle.excp_system.specs.States.{Locked}
 use Rattle.excp_system.proofs.Begins.{began_then, continues_out}
+use Rattle.excp_system.proofs.Logs.{log_quietly, quietly_out}
 use Rattle.excp_system.proofs.Units.{first-is, unit-delivers}
 use Rattle.excp_system.proofs.unit.UnitState.deliver.Goals as goal
 
@@ -49,6 +50,7 @@ invariant_of-self-in-Ok g c =
           c.self.inside.notice c.self.inside.owes c.self.invariant.0 c.holds.ensures.given
           c.take_out.new.self c.in-Some.value c.send.new.self c.in-Some.ensures.book c.in-Some.ensures.given f.0 sends,
       began_then c.self.invariant.1 (continues_out _ c.in-Some.ensures.book),
+      log_quietly c.self.invariant.2 (quietly_out c.self.inside.book c.take_out.new.self _ c.in-Some.ensures.book),
     )
 
 pub returns-in-Ok : goal.returns-in-Ok
@@ -103,10 +105,12 @@ pub invariant_of-self : goal.invariant_of-self
 invariant_of-self g c = (
   first_of (search rules, grind (arith, common_steps)),
   began_then c.self.invariant.1 (continues_out _ c.take_out.ensures.book),
+  log_quietly c.self.invariant.2 (quietly_out c.self.inside.book c.take_out.new.self _ c.take_out.ensures.book),
 )
 
 pub invariant_of-self-in-Err : goal.invariant_of-self-in-Err
 invariant_of-self-in-Err g c = (
   first_of (search rules, grind (arith, common_steps)),
   began_then (began_then c.self.invariant.1 (continues_out _ c.take_out.ensures.book)) (continues_out _ c.return_out.ensures),
+  log_quietly (log_quietly c.self.invariant.2 (quietly_out c.self.inside.book c.take_out.new.self _ c.take_out.ensures.book)) (quietly_out c.take_out.new.self c.return_out.new.self _ c.return_out.ensures),
 )

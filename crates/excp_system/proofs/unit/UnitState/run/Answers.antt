@@ -1,5 +1,6 @@
 use Rattle.unit_book.proofs.WorldBooks.{keeps-run}
 use Rattle.excp_system.proofs.Begins.{began_call, continues_runs}
+use Rattle.excp_system.proofs.Logs.{log_call, quietly_runs}
 use Rattle.excp_system.proofs.Units.{unit-call}
 use Rattle.excp_system.proofs.unit.UnitState.run.Goals as goal
 
@@ -13,4 +14,6 @@ invariant_of-self-2 g c =
           (λ sound answer h. keeps-run g.D.Device.meaning answer sound c.requires h),
       began_call c.run.result new c.self.invariant.1 c.run.ensures.ok c.run.ensures.err
           (λ answer h. continues_runs g.D.Device.meaning c.args.max answer h),
+      log_call c.run.result old new c.self.invariant.2 c.run.ensures.ok c.run.ensures.err
+          (λ answer h. quietly_runs g.D.Device.meaning old new c.args.max answer h),
     )

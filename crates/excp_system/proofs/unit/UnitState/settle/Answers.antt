@@ -1,6 +1,7 @@
 use Rattle.unit_book.proofs.Kept.{keeps-settles}
 use Rattle.unit_book.proofs.WorldBooks.{Sound}
 use Rattle.excp_system.proofs.Begins.{began_then, continues_served}
+use Rattle.excp_system.proofs.Logs.{log_quietly, quietly_settles}
 use Rattle.excp_system.proofs.Units.{unit-keeps}
 use Rattle.excp_system.proofs.unit.UnitState.settle.Goals as goal
 
@@ -15,4 +16,5 @@ invariant_of-self g c =
           (keeps-settles meaning sound c.settle-answer.ensures.steps),
       began_then c.self.invariant.1 (continues_served c.settle-answer.ensures.mounted c.settle-answer.ensures.isc
           c.settle-answer.ensures.capacity c.settle-answer.ensures.adds),
+      log_quietly c.self.invariant.2 (quietly_settles old new c.settle-answer.ensures.adds),
     )

@@ -1,5 +1,6 @@
 use Rattle.unit_book.proofs.WorldBooks.{keeps-start}
 use Rattle.excp_system.proofs.Begins.{began_call, continues_starts}
+use Rattle.excp_system.proofs.Logs.{log_call, quietly_starts}
 use Rattle.excp_system.proofs.Units.{unit-call}
 use Rattle.excp_system.proofs.unit.UnitState.start.Goals as goal
 
@@ -13,4 +14,6 @@ invariant_of-self g c =
           (λ sound answer h. keeps-start g.D.Device.meaning answer sound h),
       began_call c.start.result new c.self.invariant.1 c.start.ensures.ok c.start.ensures.err
           (λ answer h. continues_starts g.D.Device.meaning answer h),
+      log_call c.start.result old new c.self.invariant.2 c.start.ensures.ok c.start.ensures.err
+          (λ answer h. quietly_starts g.D.Device.meaning old new answer h),
     )

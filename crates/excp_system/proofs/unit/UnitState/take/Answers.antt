@@ -10,6 +10,7 @@ use Rattle.fifo_row.specs.Lists.{of}
 use Rattle.excp_system.specs.Sites.{RequestFact, task_of}
 use Rattle.unit_book.specs.declared.entry.Entry.TheVariants.{Arrive}
 use Rattle.excp_system.proofs.Begins.{began_then, continues_again, continues_dooms, continues_then}
+use Rattle.excp_system.proofs.Logs.{log_quietly, quietly_again, quietly_arrives}
 use Rattle.excp_system.proofs.Units.{unit-takes}
 use Rattle.excp_system.proofs.unit.UnitState.take.Goals as goal
 
@@ -40,10 +41,13 @@ invariant_of-self-in-Some g c =
           (c.in-Some.ensures.taken ∙ ap (λ (x : Piece). record taker { taken = taker.taken ++ x ∷ [] }) (sym same)),
       began_then c.self.invariant.1 (continues_then (continues_again old.awaits c.in_ok-reserve.ensures.book)
           (continues_dooms meaning (Arrive r) c.arrive_reserved.ensures.book)),
+      log_quietly c.self.invariant.2 (λ asked k. quietly_arrives meaning mid new r c.arrive_reserved.ensures.book asked
+          (quietly_again old mid old.awaits c.in_ok-reserve.ensures.book asked k)),
     )
 
 pub invariant_of-self-in-None : goal.invariant_of-self-in-None
 invariant_of-self-in-None g c = (
   first_of (search rules, grind (arith, common_steps)),
   began_then c.self.invariant.1 (continues_again c.self.inside.book.awaits c.reserve.ensures.book),
+  log_quietly c.self.invariant.2 (quietly_again c.self.inside.book c.reserve.new.self c.self.inside.book.awaits c.reserve.ensures.book),
 )

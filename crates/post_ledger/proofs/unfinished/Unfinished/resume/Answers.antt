@@ -3,7 +3,7 @@ use Rattle.std.specs.Prelude.{IfErr, IfOk, ⊤}
 use Rattle.std.proofs.lemmas.Result.{IfErr-weaker, IfOk-weaker}
 use Rattle.excp_system.specs.States.{Locked}
 use Rattle.post_ledger.specs.Left.{GrewInto, IsCause, Left, WorkOn, free_states}
-use Rattle.post_ledger.specs.Report.{IsFor, PostedOnce, Received, ReturnedRest}
+use Rattle.post_ledger.specs.Report.{Controls, IsFor, PostedOnce, Received, ReturnedRest}
 use Rattle.post_ledger.specs.Work.{CollectsAll}
 use Rattle.post_ledger.proofs.Works.{collects_none}
 use Rattle.post_ledger.proofs.unfinished.Unfinished.resume.Goals as goal
@@ -16,6 +16,10 @@ returns-in-Free-clause-posted_once g c =
 pub returns-in-Ok-clause-received : goal.returns-in-Ok-clause-received
 returns-in-Ok-clause-received g c = subst (λ (l : Left _). IfOk c.go_on-in-Ok.result (λ report. Received report l.tasks)) c.self.view_is
     c.go_on-in-Ok.ensures.received
+
+pub returns-in-Ok-clause-controlled : goal.returns-in-Ok-clause-controlled
+returns-in-Ok-clause-controlled g c = subst (λ (l : Left _). IfOk c.go_on-in-Ok.result (λ report. Controls report l.tasks)) c.self.view_is
+    c.go_on-in-Ok.ensures.controlled
 
 pub returns-in-Ok-clause-posted_once : goal.returns-in-Ok-clause-posted_once
 returns-in-Ok-clause-posted_once g c = subst (λ (l : Left _). IfOk c.go_on-in-Ok.result (λ report. PostedOnce report l.tasks))

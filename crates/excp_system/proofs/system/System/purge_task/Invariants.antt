@@ -1,6 +1,6 @@
 use Rattle.std.proofs.Common.{◌≡◌, ◌≤◌, vec_len}
 use Rattle.std.specs.Prelude.{vec_capacity}
-use Rattle.excp_system.proofs.system.System.purge_task_and.Given as goal
+use Rattle.excp_system.proofs.system.System.purge_task.Given as goal
 
 abbrev pub invariant-loop-place : goal.invariant-loop-place
 invariant-loop-place g l = record {

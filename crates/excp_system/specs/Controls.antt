@@ -1,0 +1,107 @@
+-- THE CONTROLS OF A UNIT: the purges, closes and resets that were asked of it, by whom, and the entries that they made
+-- (DFSMSdfp Advanced Services, PURGE and CLOSE, and profile).
+use Rattle.std.specs.Prelude.{◌≡◌, ℕ, ◌+◌, Bool, true, false, not, Option, Some, None, Result, Ok, Err, List, [], ◌∷◌, ◌++◌, slice_get, slice_index_or, slice_set}
+use Rattle.device_port.specs.Meaning.{Meaning}
+use Rattle.request_piece.specs.declared.scope.Scope.TheVariants.{Dcb, Task}
+use Rattle.unit_book.specs.declared.answer.DcbError.{DcbError}
+use Rattle.unit_book.specs.declared.answer.DcbError.TheVariants.{NoSuchDcb, NoMemory}
+use Rattle.unit_book.specs.declared.entry.Entry.{Entry}
+use Rattle.unit_book.specs.declared.entry.Entry.TheVariants as entry
+use Rattle.unit_book.specs.Answers.{Adds}
+use Rattle.unit_book.specs.Book.{Book}
+use Rattle.unit_book.specs.Controls.{ClosesBook, PurgesBook}
+use Rattle.unit_book.specs.Dcbs.{is_open, is_opened}
+use Rattle.signed_list.specs.Signed.{ListState, RegisterName, Signing, items_of}
+use Rattle.excp_system.specs.declared.control.Control.{Control}
+use Rattle.excp_system.specs.declared.control.Control.TheVariants.{Purge, Close, Reset}
+use Rattle.excp_system.specs.declared.control.Controlling.{Controlling}
+use Rattle.excp_system.specs.declared.control.Controlling.TheVariants as controlling
+use Rattle.excp_system.specs.Sites.{SiteRows}
+
+-- the control that made an entry, if one did
+abbrev pub control_of : Entry → Option Control
+control_of (entry.Purge scope mode) = Some (Purge scope mode)
+control_of (entry.Close dcb) = Some (Close dcb)
+control_of (entry.Reset dcb) = Some (Reset dcb)
+control_of _ = None
+
+-- a control that makes no entry: a purge of a DCB that was never opened, a close or a reset of one that is not open
+abbrev pub makes_none : Control → List Entry → Bool
+makes_none (Purge (Dcb dcb) mode) H = not (is_opened dcb H)
+makes_none (Purge (Task task) mode) H = false
+makes_none (Close dcb) H = not (is_open dcb H)
+makes_none (Reset dcb) H = not (is_open dcb H)
+
+-- THE CONTROLS OF A TRACE are these, in order: each made its entry, or found its DCB closed, and no other entry is of a
+-- control
+pub data Controlled : List Control → List Entry → Type 0 where
+  Begins : Controlled [] []
+  Goes : {asked : List Control} {H : List Entry} (e : Entry) → control_of e ≡ None → Controlled asked H → Controlled asked (e ∷ H)
+  Makes : {asked : List Control} {H : List Entry} (c : Control) (e : Entry) → control_of e ≡ Some c → Controlled asked H →
+      Controlled (asked ++ c ∷ []) (e ∷ H)
+  MakesNone : {asked : List Control} {H : List Entry} (c : Control) → makes_none c H ≡ true → Controlled asked H →
+      Controlled (asked ++ c ∷ []) H
+
+-- THE LOG OF A UNIT: the register of its controls, and each control that was asked, with the number of the task that
+-- asked it, or that of the tasks where the unit's own calls did
+pub record LogState : Type 0 where
+  pub register : RegisterName
+  pub asked : List (ℕ × Control)
+
+-- the log with one control more, if memory did not run out
+abbrev pub logged : Bool → ℕ → Control → LogState → LogState
+logged false number c l = l
+logged true number c l = record l { asked = l.asked ++ (number, c) ∷ [] }
+
+-- the list, with a pen for each task and one more, which is the unit's own
+pub record IsLog (tasks : ℕ) (list : ListState Control) (own : Signing Control) : Type 0 where
+  pub pens : list.pens ≡ tasks + 1
+  pub number : own.number ≡ tasks
+  pub register : own.register ≡ list.register
+
+-- a unit's log is on its register, and has the controls of its trace
+pub record KeepsLog (s : SiteRows) (unit : ℕ) (l : LogState) (H : List Entry) : Type 0 where
+  pub register : l.register ≡ s.register unit
+  pub controlled : Controlled (items_of l.asked) H
+
+-- THE PENS OF A TASK, one for each unit: its number, and what it asked of each
+pub record PensState : Type 0 where
+  pub number : ℕ
+  pub asked : List (List Control)
+
+-- what was asked of a unit, of one list for each
+abbrev pub asked_of : List (List Control) → ℕ → List Control
+asked_of asked unit = slice_index_or asked unit []
+
+-- the lists with one control more of a unit, if memory did not run out
+abbrev pub asks : Bool → ℕ → Control → List (List Control) → List (List Control)
+asks false unit c asked = asked
+asks true unit c asked = slice_set asked unit (asked_of asked unit ++ c ∷ [])
+
+abbrev pub pen_of : SiteRows → ℕ → ℕ → List Control → Signing Control
+pen_of s number unit signed = record { register = s.register unit; number = number; signed = signed }
+
+-- each pen is of the register of its place
+abbrev pub ArePens : SiteRows → ℕ → List (Signing Control) → Type 0
+ArePens s number pens = (unit : ℕ) (p : Signing Control) → slice_get pens unit ≡ Some p → p ≡ pen_of s number unit p.signed
+
+-- WHAT A CONTROL DOES to a book, by its answer
+module _ {D : Type 0} (meaning : Meaning D) where
+  abbrev pub ControlsBook : Book D → Control → Controlling → Book D → Type 0
+  ControlsBook old (Purge (Dcb dcb) mode) (controlling.Purged p) new =
+      (is_opened dcb old.trace ≡ true) × PurgesBook meaning old (Dcb dcb) mode p new
+  ControlsBook old (Purge (Task task) mode) (controlling.Purged p) new = PurgesBook meaning old (Task task) mode p new
+  ControlsBook old (Close dcb) (controlling.Closed c) new = ClosesBook meaning old dcb c new
+  ControlsBook old (Reset dcb) controlling.Reset new = (is_open dcb old.trace ≡ true) × Adds old (entry.Reset dcb) new
+  ControlsBook old c answer new = ⊥
+
+-- a control was asked: its answer is not that memory ran out
+abbrev pub is_asked : {A : Type 0} → Result A DcbError → Bool
+is_asked (Ok a) = true
+is_asked (Err NoSuchDcb) = true
+is_asked (Err NoMemory) = false
+
+-- when a control is refused, the first reason in this order
+abbrev pub ControlRefused : {D : Type 0} → Book D → Control → DcbError → Type 0
+ControlRefused b c NoSuchDcb = makes_none c b.trace ≡ true
+ControlRefused b c NoMemory = makes_none c b.trace ≡ false
