@@ -21,7 +21,7 @@ COMMAND = re.compile(r"(?:\$ )?(?:\./|tests/|tools/|cd |rt |job=)")
 EXCP = """#!/usr/bin/env bash
 set -o pipefail
 case "$1" in
-    report | step | check | assemble | describe | convert) exec {package} "$@" ;;
+    report | step | check | assemble | describe | convert | test) exec {package} "$@" ;;
     outcomes)
         {package} "$@"
         [ $? = 5 ]
@@ -118,7 +118,9 @@ RUN = {
     ("docs/MANUAL.md", "./excp report --html first"): (NOTHING, {"first": "samples/read.symbolic"}),
     ("docs/MANUAL.md", "./excp outcomes samples/outcomes/a-halt.symbolic"): (SESSION, {}),
     ("docs/MANUAL.md", "./excp report --seed 12"): (ANYTHING, {}),
+    ("docs/MANUAL.md", "./excp test --accept job"): (SESSION, {"job": "LINE: DC  C'HELLO'"}),
     ("samples/README.md", "./excp outcomes samples/outcomes/a-halt.script"): (ANYTHING, {}),
+    ("samples/README.md", "./excp test samples"): (ANYTHING, {}),
     ("docs/REPORT.md", "./excp report --json first.script"): (ANYTHING, {"first.script": "samples/read.script"}),
     ("docs/REPORT.md", "./excp report --html first.script"): (NOTHING, {"first.script": "samples/read.script"}),
     ("docs/REPORT.md", "./excp step --json samples/scenarios/halt-an-active-request.scenario"): (ANYTHING, {}),

@@ -23,7 +23,7 @@ FOUND = re.compile(rf"<stdin>(?::([1-9][0-9]*))?: (note|{'|'.join([*OF_LINES, *O
 REPORTED = re.compile(r"excp_job: (line [0-9]+: [A-Z][a-z]+|script too long)\n")
 
 # What a run says of a script that is too long, and what the words of the package do.
-RUN_TOO_LONG, TOO_LONG = "excp_job: script too long\n", "excp: script too long\n"
+RUN_TOO_LONG, TOO_LONG = "excp_job: script too long\n", "excp: <stdin>: the script has more than 1,048,576 bytes\n"
 
 UNITS = b"disk", b"tape", b"printer"
 

@@ -115,7 +115,7 @@ class Setup:
         name = os.path.relpath(file, TOP) if file else ""
         if words[:1] == ("run",):
             return run(self.command(*words), script or "", name, **how)
-        return run_package(self.command(*words), self.tools, words, script or "", name, **how)
+        return run_package(self.command(*words), (self.program, self.tools), words, script or "", name, **how)
 
 
 def run(words, script="", file="", **how):
@@ -133,8 +133,8 @@ def run(words, script="", file="", **how):
     return Ran(words, ran.returncode, decoded(ran.stdout), decoded(ran.stderr), script, file)
 
 
-def package_main(tools):
-    """What carries out words of the package with this program, whose modules this process imports once, before it has children."""
+def package_main(job, tools):
+    """What carries out words of the package with these programs, whose modules this process imports once, before it has children."""
     from excp.command.main import main
     from excp.command.words import WORDS
 
@@ -142,12 +142,12 @@ def package_main(tools):
         word.load()
     for name in "dialog", "page_form", "whole_script":
         importlib.import_module(f"excp.command.{name}")
-    return lambda words: main(words, lambda _: pathlib.Path(tools))
+    return lambda words: main(words, lambda name: pathlib.Path(job if name == "excp_job" else tools))
 
 
-def run_package(command, tools, words, script="", file="", cwd=None, stdin=None, stdout=None, timeout=SECONDS):
+def run_package(command, programs, words, script="", file="", cwd=None, stdin=None, stdout=None, timeout=SECONDS):
     """Runs a word of the package as `run` does, but in a child of this process: Python need not start for each of many."""
-    main = package_main(os.path.abspath(tools))
+    main = package_main(*map(os.path.abspath, programs))
     with tempfile.TemporaryFile() as given, tempfile.TemporaryFile() as out, tempfile.TemporaryFile() as err:
         given.write(encoded(script))
         given.seek(0)

@@ -2,6 +2,8 @@
 """Runs a word of the package python/excp with this program excp_tools, from any folder and with any environment:
 
     tests/package.py PROGRAM WORD ..
+
+The word `test` runs the excp_job beside PROGRAM, or that of `rt ci`.
 """
 
 import os
@@ -9,17 +11,20 @@ import pathlib
 import sys
 
 sys.dont_write_bytecode = True
-sys.path[0] = os.path.join(os.path.dirname(os.path.dirname(os.path.realpath(__file__))), "python")
+TOP = os.path.dirname(os.path.dirname(os.path.realpath(__file__)))
+sys.path[0] = os.path.join(TOP, "python")
 
 
-def carried_out(program, words):
+def carried_out(tools, words):
     """The exit status of a word of the package."""
     try:
         from excp.command.main import main
     except KeyboardInterrupt:
         # while modules are loaded
         return 130
-    return main(words, lambda _: pathlib.Path(program))
+    beside = f"{os.path.dirname(tools)}/excp_job"
+    job = beside if os.path.exists(beside) else f"{TOP}/crates/excp_job/out/excp_job"
+    return main(words, lambda name: pathlib.Path(job if name == "excp_job" else tools))
 
 
 if __name__ == "__main__":

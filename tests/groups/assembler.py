@@ -183,7 +183,7 @@ def limits():
     most = "# " + "x" * (LIMIT - 3) + "\n"
     yield "a script of 1,048,576 bytes", most, (0, LIMIT, "")
     yield "a script of 1,048,576 bytes, the last line without a line feed", f"# {'x' * (LIMIT - 2)}", (0, LIMIT, "")
-    yield "a script of one byte more", f"{most}\n", (1, 0, "excp: script too long\n")
+    yield "a script of one byte more", f"{most}\n", (1, 0, "excp: <stdin>: the script has more than 1,048,576 bytes\n")
     # each area is `area N 001000`, 1024 times a blank and 16 digits, and a line feed
     areas, size = [], 0
     while size <= LIMIT:

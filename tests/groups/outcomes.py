@@ -290,7 +290,7 @@ def ends(setup, file):
 
 def is_stored(setup, file):
     """A sample prints the stored outcomes, in any number of states."""
-    due = without_states(read(file.replace(".script", ".posts")))
+    due = without_states(read(file.replace(".script", ".outcomes")))
     ran = setup.run("outcomes", script=read(file))
     ran.out = without_states(ran.out)
     expect(ran, (status_of(due.splitlines()[-1]), due))

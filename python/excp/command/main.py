@@ -49,4 +49,4 @@ def _carried_out(argv: Sequence[str], program_of: Callable[[str], Path]) -> int:
     word = WORDS[argv[0]].load()
     word.add_arguments(parser)
     parser.set_defaults(usage_error=parser.error, program_of=program_of)
-    return word.run(parser.parse_args(argv[1:]))
+    return word.run(parser.read(argv[1:]))

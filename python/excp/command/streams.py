@@ -70,8 +70,13 @@ def read_script(file: Optional[str]) -> bytes:
     if image is not None:
         raise Ended(image)
     if len(text) > MOST_SCRIPT_BYTES:
-        raise Ended("script too long")
+        raise too_long(file)
     return text
+
+
+def too_long(file: Optional[str]) -> Ended:
+    """Why the command ends after it has read more than a script has."""
+    return of_file(name_of(file), f"the script has more than {MOST_SCRIPT_BYTES:,} bytes")
 
 
 def image_in(file: Optional[str], text: bytes) -> Optional[str]:
@@ -87,6 +92,13 @@ def image_in(file: Optional[str], text: bytes) -> Optional[str]:
     name = printable_name(name_of(file))
     instead = f"'describe {'FILE' if file is None else name}' prints what it holds"
     return f"{name}: this is {kind}, not a script: {instead}"
+
+
+def check_image_name(name: str) -> None:
+    """Raises Ended for an image of standard input, in which nothing can be looked up."""
+    if name == "-":
+        instead = "name a file, as ./- if that is its name"
+        raise of_file(name, f"an image is not read from standard input; {instead}")
 
 
 def opened_script(file: Optional[str]) -> BinaryIO:

@@ -38,4 +38,5 @@ WORDS: Mapping[str, Word] = {
     "outcomes": Word("outcomes", "Prints the posts that each request can have, over all orders"),
     "report": Word("report", "Prints the posts of a script, and what the run left behind"),
     "step": Word("step", "Carries out a scenario event by event"),
+    "test": Word("test", "Runs jobs and scenarios, and compares them with what is expected"),
 }

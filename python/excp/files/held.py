@@ -24,6 +24,7 @@ class Held(Enum):
     PACKED_TAPE = "a compressed tape image"
     DISK = "a disk image"
     OTHER_DISK = "a damaged or compressed disk image"
+    JUNIT = "a JUnit report"
     TEXT = "text"
     OTHER = "other data or a damaged image"
     UNREAD = "what cannot be read"
@@ -45,7 +46,7 @@ def _held_in(file: BinaryIO) -> Held:
         file.seek(0)
         if is_disk(file):
             return Held.OTHER_DISK
-        return Held.TEXT if _is_text(file.read(FIRST_BYTES)) else Held.OTHER
+        return _text_in(file.read(FIRST_BYTES))
 
 
 def _disk_in(file: BinaryIO) -> Held:
@@ -60,6 +61,13 @@ def _tape_in(file: BinaryIO) -> Held:
     """That a file holds a tape. Raises ImageFault if it breaks a rule."""
     packings = {packing for _, packing in read_items(file)}
     return Held.TAPE if packings <= {Packing.NONE} else Held.PACKED_TAPE
+
+
+def _text_in(first: bytes) -> Held:
+    """What a file without an image holds, by its first bytes."""
+    if not _is_text(first):
+        return Held.OTHER
+    return Held.JUNIT if first.startswith(b"<?xml") and b"<testsuites" in first else Held.TEXT
 
 
 def _is_text(first: bytes) -> bool:

@@ -45,6 +45,8 @@ DISK = Content("a disk image", frozenset({Held.DISK}))
 # What a unit may be loaded from, and is not saved as.
 PACKED = frozenset({Held.PACKED_TAPE, Held.OTHER_DISK})
 TEXT = Content("new text", frozenset())
+POSTS = Content("the posts of a job", frozenset({Held.TEXT}))
+JUNIT = Content("a JUnit report", frozenset({Held.JUNIT}))
 
 
 @dataclass(frozen=True)
@@ -77,7 +79,8 @@ class _Source:
 
 
 class Targets:
-    """The rules for a call that reads a script, loads and saves these media, and writes this text.
+    """The rules for a call that reads a script and other files, loads and saves these media, and
+    writes this text.
 
     `force` lifts the rules for what a file holds. Each method raises Unwritten.
     """
@@ -89,6 +92,7 @@ class Targets:
         loads: Iterable[UnitFile] = (),
         saves: Iterable[UnitFile] = (),
         text: Optional[str] = None,
+        reads: Iterable[str] = (),
     ) -> None:
         self._force = force
         self._sources: List[_Source] = []
@@ -101,7 +105,7 @@ class Targets:
             self._name_both(file.unit, file.name)
         if text is not None:
             self._name_both(None, text)
-        for name in (script, *STREAMS):
+        for name in (script, *reads, *STREAMS):
             if name is not None:
                 self._note(name, None)
         for file in images:

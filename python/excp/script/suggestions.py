@@ -9,10 +9,12 @@ from typing import Iterable, Optional
 _MOST_COMPARED = 16
 
 
-def nearest(word: str, known: Iterable[str]) -> Optional[str]:
+def nearest(
+    word: str, known: Iterable[str], most_compared: int = _MOST_COMPARED
+) -> Optional[str]:
     """The first known word with the fewest edits from a word: at most one edit, or one for three
-    characters of the word."""
-    if len(word) > _MOST_COMPARED:
+    characters of the word. A word of too many characters is compared with none."""
+    if len(word) > most_compared:
         return None
     found, most = None, max(len(word) // 3, 1)
     for candidate in known:
