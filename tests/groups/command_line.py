@@ -319,6 +319,13 @@ def without_input(setup):
     is_without("script unreadable", setup, ["assemble"], stdin=None, preexec_fn=lambda: os.close(0))
 
 
+def lists_to_head():
+    """`tests/run --list | head` ends without a traceback."""
+    for words in "--list", "--list scripts front_door":
+        ran = run(["sh", "-c", f"{TOP}/tests/run {words} | head -1"])
+        require((ran.status, ran.out.count("\n"), ran.err) == (0, 1, ""), "another end", ran)
+
+
 def with_full_output(setup):
     with open("/dev/full", "wb") as full, open(STORED, "rb") as script:
         ran = run(setup.command("assemble"), file=os.path.relpath(STORED, TOP), stdin=script, stdout=full)
@@ -558,6 +565,10 @@ def cases(setup):
     yield case("report in colour with --color always", coloured, setup, [*steps, "--color=always"], ends, by_failure, NO_COLOR="1")
     yield case("report in colour to a pipe", colours_a_pipe, setup, ends)
     yield case("run without colour on a terminal", coloured, setup, ["run"], ends, without_colour)
+    for word in "describe", "convert":
+        text = "-: an image is not read from standard input; name a file, as ./- if that is its name"
+        yield case(f"{word} of standard input", is_without, text, setup, [word, "-"])
+    yield case("tests/run to a reader that is gone", lists_to_head)
     for words in (["--version"], ["-V"]):
         yield case(words[0], prints_version, setup, words[0])
     yield case("assemble with standard input closed", without_input, setup)

@@ -16,7 +16,7 @@ from ..images.lines import disk_of, lines_of_image, tape_items
 from ..images.reading import Unreadable
 from ..script.set_up import Unit
 from .script_unit import unit_of_script
-from .streams import OUTPUT, Ended, of_file, say_removed, write_output
+from .streams import OUTPUT, Ended, check_image_name, of_file, say_removed, write_output
 
 # The name of an image that is standard output, or of a script that is standard input.
 _STREAM = "-"
@@ -73,6 +73,7 @@ def run(given: argparse.Namespace) -> int:
 
 
 def _print_lines(name: str) -> None:
+    check_image_name(name)
     try:
         lines = lines_of_image(name)
     except Unreadable as error:

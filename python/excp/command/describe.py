@@ -8,7 +8,7 @@ from ..findings import printable_name
 from ..images.describe import described
 from ..images.reading import Unreadable
 from ..programs.telling import note
-from .streams import REJECTED, write_output
+from .streams import REJECTED, check_image_name, write_output
 
 
 def add_arguments(parser: argparse.ArgumentParser) -> None:
@@ -18,6 +18,8 @@ def add_arguments(parser: argparse.ArgumentParser) -> None:
 
 def run(given: argparse.Namespace) -> int:
     """Describes each image. The exit status is 1 if one of them cannot be read."""
+    for name in given.files:
+        check_image_name(name)
     return max([_describe(name) for name in given.files])
 
 

@@ -1,4 +1,5 @@
-"""What is said, or done, after a run that has rejected its script."""
+"""What is said, or done, of a script that has faults: before a program is built to run it, and
+after a run that has rejected it."""
 
 from __future__ import annotations
 
@@ -14,26 +15,45 @@ from ..script.limits import MOST_SCRIPT_BYTES
 from ..symbols import Assembled, assemble, has_symbols
 from .run import copy_errors, in_memory
 from .script_file import worth_printing
-from .streams import ERRORS, REJECTED, STANDARD_INPUT, image_in, print_findings
+from .streams import (
+    ERRORS, REJECTED, STANDARD_INPUT, Ended, Rejected, image_in, print_findings, too_long,
+)
+
+
+def before_build(script: str, given: BinaryIO) -> None:
+    """Raises Rejected, after it has printed the faults of a script, or Ended, if it is too long or
+    an image. Else a program is worth its build."""
+    text = _text_of(script, given)
+    plain = assemble(text) if has_symbols(text) else Assembled(text)
+    findings = plain.findings or check_script(plain, NO_IMAGES)
+    if any(finding.is_fault for finding in findings):
+        print_findings(worth_printing(findings, text), script, ERRORS)
+        raise Rejected
 
 
 def after_fault(
     command: Sequence[str], script: str, given: BinaryIO, errors: BinaryIO
 ) -> int:
     """Says why a program has rejected a script; or runs it once more if it has symbols. Returns the
-    exit status."""
-    text = given.read(MOST_SCRIPT_BYTES + 1)
-    image = image_in(None if script == STANDARD_INPUT else script, text)
-    if image is not None:
-        note(image)
-        return REJECTED
-    is_whole = len(text) <= MOST_SCRIPT_BYTES
-    if is_whole and has_symbols(text):
+    exit status. Raises Ended, if it is too long or an image."""
+    text = _text_of(script, given)
+    if has_symbols(text):
         return _run_assembled(command, script, text)
     copy_errors(errors)
-    if is_whole:
-        _prints_fault(Assembled(text), text, script)
+    _prints_fault(Assembled(text), text, script)
     return REJECTED
+
+
+def _text_of(script: str, given: BinaryIO) -> bytes:
+    """The text of a script. Raises Ended if it is too long or an image."""
+    file = None if script == STANDARD_INPUT else script
+    text = given.read(MOST_SCRIPT_BYTES + 1)
+    image = image_in(file, text)
+    if image is not None:
+        raise Ended(image)
+    if len(text) > MOST_SCRIPT_BYTES:
+        raise too_long(file)
+    return text
 
 
 def _run_assembled(command: Sequence[str], name: str, text: bytes) -> int:

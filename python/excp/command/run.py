@@ -10,7 +10,7 @@ import os
 import shutil
 import stat
 from dataclasses import dataclass
-from typing import BinaryIO, List, Sequence
+from typing import BinaryIO, Callable, List, Sequence
 
 from ..programs.children import ended
 from ..programs.choice import Mode, choose
@@ -29,10 +29,15 @@ class Run:
     mode: Mode
     words: Sequence[str]
 
-    def command(self) -> List[str]:
-        """The program with its words. Builds it if need be. Raises Ended, and NotBuilt."""
-        options = run_options(self.words)
-        return [str(choose(self.home, "excp_job", self.mode)), "run", *options]
+    def options(self) -> Sequence[str]:
+        """The options for the program. Raises Ended."""
+        return run_options(self.words)
+
+    def command(self, before_build: Callable[[], None] = lambda: None) -> List[str]:
+        """The program with its words. Builds it if need be, after this call. Raises Ended, and
+        NotBuilt."""
+        options = self.options()
+        return [str(choose(self.home, "excp_job", self.mode, before_build)), "run", *options]
 
 
 def run_options(words: Sequence[str]) -> Sequence[str]:
@@ -46,7 +51,7 @@ def run_options(words: Sequence[str]) -> Sequence[str]:
     parser = WordParser(COMMAND)
     add_workers(parser)
     try:
-        given = vars(parser.parse_args(words))
+        given = vars(parser.read(words))
     except Ended:
         _check_report(words)
         raise
@@ -61,7 +66,7 @@ def _check_report(words: Sequence[str]) -> None:
     parser = WordParser("report")
     add_arguments(parser)
     try:
-        given = parser.parse_args(words)
+        given = parser.read(words)
     except Ended:
         return
     if given.script is None:
@@ -82,23 +87,23 @@ def _run_script(run: Run, script: str) -> int:
     if script == "-":
         return _run_input(run)
     with opened_script(script) as given:
-        command = run.command()
+        run.options()
         if stat.S_ISREG(os.fstat(given.fileno()).st_mode):
-            return _run_file(command, script, given)
+            return _run_file(run, script, given)
         with _copied(given) as copy:
-            return _run_file(command, script, copy)
+            return _run_file(run, script, copy)
 
 
 def _run_input(run: Run) -> int:
     """Runs the script of standard input. The program says why if that cannot be read."""
-    command = run.command()
+    run.options()
     try:
         with opened_script(None) as given:
             copy = _copied(given)
     except OSError:
-        return ended(command)
+        return ended(run.command())
     with copy:
-        return _run_file(command, STANDARD_INPUT, copy)
+        return _run_file(run, STANDARD_INPUT, copy)
 
 
 def _copied(given: BinaryIO) -> BinaryIO:
@@ -106,9 +111,10 @@ def _copied(given: BinaryIO) -> BinaryIO:
     return in_memory(given.read(MOST_SCRIPT_BYTES + 1))
 
 
-def _run_file(command: Sequence[str], script: str, given: BinaryIO) -> int:
+def _run_file(run: Run, script: str, given: BinaryIO) -> int:
     """Runs a script of a file. What the program says is printed once it is known not to be about
     symbols."""
+    command = run.command(lambda: _check(script, given))
     with in_memory() as errors:
         status = ended(command, given, errors)
         if status != REJECTED:
@@ -119,6 +125,15 @@ def _run_file(command: Sequence[str], script: str, given: BinaryIO) -> int:
 
         given.seek(0)
         return after_fault(command, script, given, errors)
+
+
+def _check(script: str, given: BinaryIO) -> None:
+    """Raises Rejected, after a fault was printed, or Ended, for a script that no program is to be
+    built for."""
+    from .faults import before_build
+
+    before_build(script, given)
+    given.seek(0)
 
 
 def in_memory(text: bytes = b"") -> BinaryIO:

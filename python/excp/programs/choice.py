@@ -6,7 +6,7 @@ from __future__ import annotations
 import enum
 import os
 from pathlib import Path
-from typing import Optional
+from typing import Callable, Optional
 
 from .building import NotBuilt, build
 from .home import Home
@@ -38,13 +38,16 @@ _MISSING = (
 )
 
 
-def choose(home: Home, program: str, mode: Mode) -> Path:
-    """The file of the build of a program that runs. Raises NotBuilt."""
+def choose(
+    home: Home, program: str, mode: Mode, before_build: Callable[[], None] = lambda: None
+) -> Path:
+    """The file of the build of a program that runs. Calls `before_build` before it builds one, if
+    need be, which may raise what ends that. Raises NotBuilt."""
     if home.top is None and not home.is_installed(program):
         raise NotBuilt(_MISSING.format(program))
     if mode is Mode.TRIED:
         note("runs the unproved build")
-        return _unproved(home, program, "try", None)
+        return _unproved(home, program, "try", None, before_build)
     why = why_not(home, program, by_sums=mode is Mode.PROVED)
     if why is None:
         if mode is Mode.ANY:
@@ -54,12 +57,14 @@ def choose(home: Home, program: str, mode: Mode) -> Path:
         raise NotBuilt(why if home.top is None else f"{why}: ./excp --build proves it")
     if home.top is None and record_of(home, program, UNPROVED):
         return home.programs / program
-    return unproved(home, program, why)
+    return unproved(home, program, why, before_build)
 
 
-def unproved(home: Home, program: str, why: str) -> Path:
+def unproved(
+    home: Home, program: str, why: str, before_build: Callable[[], None] = lambda: None
+) -> Path:
     """The quick build of a program, which is not proved for this reason. Raises NotBuilt."""
-    return _unproved(home, program, "quick", BUILDS.format(why))
+    return _unproved(home, program, "quick", BUILDS.format(why), before_build)
 
 
 def _note_newer(home: Home, program: str) -> None:
@@ -69,7 +74,9 @@ def _note_newer(home: Home, program: str) -> None:
         note(NEWER.format(source))
 
 
-def _unproved(home: Home, program: str, way: str, why: Optional[str]) -> Path:
+def _unproved(
+    home: Home, program: str, way: str, why: Optional[str], before_build: Callable[[], None]
+) -> Path:
     """A build with nothing proved, which is made if there is none of the sources as they are. The
     first one is announced."""
     if home.top is None:
@@ -79,6 +86,7 @@ def _unproved(home: Home, program: str, way: str, why: Optional[str]) -> Path:
     file = home.top / "out" / {"quick": "quick", "try": "tried"}[way] / program
     is_built = os.access(file, os.X_OK)
     if not is_built or not _is_current(home, file):
+        before_build()
         if why is not None and not is_built:
             note(why)
         build(home, way, program)

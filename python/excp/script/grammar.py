@@ -280,3 +280,5 @@ EVENT_WORDS = tuple(EVENT_LINES)
 # has no `wait`.
 SUGGESTED_SCRIPT_WORDS = ("wait", *(word for word in SCRIPT_WORDS if word != "wait"))
 SUGGESTED_SCENARIO_WORDS = (*SUGGESTED_SCRIPT_WORDS[1:], *EVENT_WORDS)
+# A job in symbols may be either.
+SUGGESTED_JOB_WORDS = (*SUGGESTED_SCRIPT_WORDS, *EVENT_WORDS)

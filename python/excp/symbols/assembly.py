@@ -6,7 +6,7 @@ import re
 from typing import Optional
 
 from ..findings import FaultName, Finding
-from ..script.grammar import EVENT_WORDS, SCRIPT_WORDS, SUGGESTED_SCRIPT_WORDS
+from ..script.grammar import EVENT_WORDS, SCRIPT_WORDS, SUGGESTED_JOB_WORDS
 from ..script.limits import HIGHEST_ADDRESS, MOST_SCRIPT_BYTES
 from ..script.reading import meant_of, on_unprintable
 from .assembled import AreaLayout, Assembled
@@ -193,7 +193,7 @@ class _Assembly:
         if word.text in SCRIPT_WORDS or word.text in EVENT_WORDS:
             return
         # a tab has its own mistake
-        meant = None if "\t" in said.text else meant_of(word.text, SUGGESTED_SCRIPT_WORDS)
+        meant = None if "\t" in said.text else meant_of(word.text, SUGGESTED_JOB_WORDS)
         if meant is not None or not self._is_lost:
             self._is_lost = True
             text = "no line begins with this word" if meant else _UNKNOWN
