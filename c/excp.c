@@ -1,5 +1,5 @@
 /* excp.c: the functions of excp.h. Each tests its pointers and calls the export of crates/excp_c that has its name behind `excp_call_`.
- * tools/library.py builds it, and gives it EXCP_VERSION. */
+ * tools/library.py builds it, and gives it EXCP_VERSION, and EXCP_IS_PROVED: 1 if it links exports that were proved. */
 #include "excp.h"
 
 /* The exports. An allocator takes no bytes, so none is passed. A slice is a pointer, which is never null, and a length. */
@@ -94,6 +94,11 @@ const char *excp_message(excp_status status)
 const char *excp_version(void)
 {
     return EXCP_VERSION;
+}
+
+int excp_is_proved(void)
+{
+    return EXCP_IS_PROVED;
 }
 
 CALL(site_new, (SITE, uint16_t tasks, uint32_t post_room), site, site, tasks, post_room)

@@ -5,7 +5,7 @@
  * request is started (excp_start), its channel program runs (excp_run), its status is taken (excp_interrupt), its post is
  * delivered to its task (excp_deliver). excp_serve makes all of these. excp_next_post gives a request back to its task.
  *
- * Every call but excp_message and excp_version returns a status. Out parameters are written only if it is EXCP_OK, and a call
+ * Every call but excp_message, excp_version and excp_is_proved returns a status. Out parameters are written only if it is EXCP_OK, and a call
  * that returns another status changes nothing, but for what its comment says. No call aborts, prints, waits, or keeps a pointer of
  * the caller: bytes are copied in and out.
  *
@@ -72,8 +72,15 @@ typedef enum excp_status {
 /* A status in words, without a period at its end. Of another number: "unknown status". */
 const char *excp_message(excp_status status);
 
+/* The version of this header. The number of the shared library, as in libexcp.so.1, is EXCP_VERSION_MAJOR. */
+#define EXCP_VERSION_MAJOR 1
+#define EXCP_VERSION_MINOR 1
+
 /* The version of the library, as "1.2". */
 const char *excp_version(void);
+
+/* Whether the library is proved: 1, or 0 for one that `tools/library.py --unproved` has built. */
+int excp_is_proved(void);
 
 /* ---- Sites ---------------------------------------------------------------------------------------------------------- */
 

@@ -18,7 +18,7 @@ if TYPE_CHECKING:
         BadImage, BadMedium, BadNumber, BadRequest, ExcpError, Full, InError, LibraryNotFound,
         NoDcb, NoImage, NoMemory, NoNumber, NoSite, NotIdle, Status,
     )
-    from .library import message, version
+    from .library import is_proved, message, version
     from .site import Site
     from .unit import Dcb, Unit
     from .values import (
@@ -26,12 +26,15 @@ if TYPE_CHECKING:
         Name, Post, Record, Served, ServedEnd, UnitState,
     )
 
+# The version of this package. That of the library is `version()`.
+__version__ = "1.1"
+
 # The public names of each module.
 _NAMES = {
     "blocks": "Area Ccw Code Csw Extent Flag Iob Op Seek",
     "errors": "BadImage BadMedium BadNumber BadRequest ExcpError Full InError LibraryNotFound "
     "NoDcb NoImage NoMemory NoNumber NoSite NotIdle Status",
-    "library": "message version",
+    "library": "is_proved message version",
     "site": "Site",
     "unit": "Dcb Unit",
     "values": "TAPE_MARK Active Answer DcbPhase DcbState Device Fault Kind Line Method Mode Name "
@@ -45,7 +48,7 @@ __all__ = [
     "Ccw", "Code", "Csw", "Dcb", "DcbPhase", "DcbState", "Device", "ExcpError", "Extent", "Fault",
     "Flag", "Full", "InError", "Iob", "Kind", "LibraryNotFound", "Line", "Method", "Mode", "Name",
     "NoDcb", "NoImage", "NoMemory", "NoNumber", "NoSite", "NotIdle", "Op", "Post", "Record", "Seek",
-    "Served", "ServedEnd", "Site", "Status", "Unit", "UnitState", "message", "version",
+    "Served", "ServedEnd", "Site", "Status", "Unit", "UnitState", "is_proved", "message", "version",
 ]
 
 

@@ -154,6 +154,7 @@ def declare(found: Any) -> None:
     """Declares the types of all calls."""
     found.excp_message.argtypes, found.excp_message.restype = [c_int], c_char_p
     found.excp_version.argtypes, found.excp_version.restype = [], c_char_p
+    found.excp_is_proved.argtypes, found.excp_is_proved.restype = [], c_int
     kinds: Dict[str, List[Any]] = {it: [NUMBERS[it][0]] for it in NUMBERS}
     kinds.update({"bytes": [c_char_p, c_size_t], "buffer": [c_char_p, c_size_t], "ref": [c_void_p]})
     for name, words in CALLS.items():
@@ -170,6 +171,11 @@ def message(status: int) -> str:
 def version() -> str:
     """The version of the library."""
     return str(library().excp_version(), "ascii")
+
+
+def is_proved() -> bool:
+    """Whether the library is proved: one of `tools/library.py --unproved` is not."""
+    return bool(library().excp_is_proved())
 
 
 @functools.lru_cache(maxsize=None)

@@ -5,12 +5,14 @@ type: both compilers lay a struct out by the order and the types of its fields. 
 and run; a program that finds a fault prints it and ends with status 1. layout.c has the library fill each struct.
 """
 
+import importlib
 import os
 import re
 import shutil
+import sys
 import tempfile
 
-from harness import CASES, TOP, Case, Failed, Skipped, read, require, run
+from harness import CASES, TOP, Case, Failed, Skipped, expect_text, read, require, run
 
 HEADER = f"{TOP}/c/excp.h"
 SOURCE = f"{TOP}/c/excp.c"
@@ -136,7 +138,7 @@ def exports_alone():
         raise Skipped("no nm, so the names that libexcp.so exports are not read")
     ran = run([tool, "-D", "--defined-only", f"{LIBRARY}/libexcp.so"])
     names = {line.split()[-1] for line in ran.out.splitlines()}
-    header = {name for name, _ in FUNCTION.findall(read(HEADER))} | {"excp_message", "excp_version"}
+    header = {name for name, _ in FUNCTION.findall(read(HEADER))} | {"excp_message", "excp_version", "excp_is_proved"}
     require(names == header, f"libexcp.so exports {sorted(names ^ header)} otherwise than excp.h", ran)
 
 
@@ -155,7 +157,94 @@ def runs(name, linked):
             raise Failed(f"tests/cases/c/{name}.c finds faults", ran, None, ran.text())
 
 
+# What tools/library.py says of a C compiler that it cannot use, before it calls `rt`.
+NO_COMPILERS = {
+    "no-such-cc -m64": "there is no C compiler 'no-such-cc', which CC names",
+    "false": "the C compiler 'false' compiles nothing:\n",
+    "cc --no-such-option": "the C compiler 'cc --no-such-option' compiles nothing:\n",
+}
+
+
+def needs_a_compiler():
+    """A C compiler that is missing or fails is noticed before anything is built."""
+    compiler()
+    with tempfile.TemporaryDirectory() as folder:
+        with open(f"{folder}/rt", "w", encoding="ascii") as file:
+            file.write(f"#!/bin/sh\ntouch {folder}/called\nexit 1\n")
+        os.chmod(f"{folder}/rt", 0o755)
+        for words in [], ["--unproved"]:
+            for given, text in NO_COMPILERS.items():
+                path = f"{folder}:{os.environ['PATH']}"
+                ran = run(["env", f"CC={given}", f"PATH={path}", f"{TOP}/tools/library.py", *words])
+                require(ran.status == 3 and ran.err.startswith(f"excp: {text}") and not ran.out, f"another text for CC={given}", ran)
+        require(not os.path.exists(f"{folder}/called"), "it called rt")
+    ran = run([f"{TOP}/tools/library.py", "--unprooved"])
+    require(ran.status == 2 and "tools/library.py --unproved" in ran.err, "no usage", ran)
+
+
+def unproved_exports():
+    """The module of tools/ that builds the exports with nothing proved."""
+    if f"{TOP}/tools" not in sys.path:
+        sys.path.append(f"{TOP}/tools")
+    return importlib.import_module("unproved_exports")
+
+
+# A module in text, as the kit's compiler is given it, and what is compiled for a library.
+MODULE = """define i32 @main() #0 {
+  %1 = call i32 @"excp_c::sites::excp_call_site_new"(ptr %0, i16 0, i32 0)
+define internal noundef i32 @"excp_c::sites::excp_call_site_new"(ptr noundef %a0) #0 {
+define internal void @"excp_c::sites::other"() #0 {
+"""
+EXPORTED = """define internal i32 @unproved_main() #0 {
+  %1 = call i32 @excp_call_site_new(ptr %0, i16 0, i32 0)
+define noundef i32 @excp_call_site_new(ptr noundef %a0) #0 {
+define internal void @"excp_c::sites::other"() #0 {
+"""
+
+
+def unproved_call_each():
+    """The program that the exports are compiled with calls each of them once, with as many values as it has parameters."""
+    text = unproved_exports().main_of()
+    calls = {name: values for name, values in re.findall(r"::excp_call_(\w+)\((.*)\);", text)}
+    exports = {name: parameters for name, parameters in EXPORT.findall(sources())}
+    require(calls.keys() == exports.keys() and text.count("::excp_call_") == len(exports), f"it calls others: {differing(calls, exports)}")
+    count = lambda words: len([it for it in words.split(",") if it.strip()])
+    wrong = [name for name in calls if count(calls[name]) != count(exports[name])]
+    require(not wrong, f"another number of values for {wrong}")
+    expect_text("another module", None, EXPORTED, unproved_exports().with_exports(MODULE))
+
+
+def unproved_works():
+    """A library with nothing proved says so, and a program of C finds no fault in it. The build takes minutes."""
+    words, module = [compiler()], unproved_exports()
+    require(module.build() == 0, "the exports are not built")
+    library = importlib.import_module("library")
+    with tempfile.TemporaryDirectory() as folder:
+        require(library.link(words, folder, module.OBJECT, False), "they are not linked")
+        flags = [f"-I{TOP}/c", f"{CASES}/c/layout.c", f"{folder}/libexcp.a", "-o", f"{folder}/layout"]
+        require(run([*words, *flags]).status == 0, "layout.c is not compiled")
+        ran = run([f"{folder}/layout"])
+        require((ran.status, ran.out, ran.err) == (0, "", ""), "layout.c finds faults", ran)
+
+
+def has_a_library():
+    """Skips a case if out/library has no library, proved or not."""
+    if not os.path.exists(f"{LIBRARY}/libexcp.so"):
+        raise Skipped("no library in out/library: tools/library.py builds one")
+
+
+def says_what_it_is():
+    """The library that is built says whether it is proved, in C and in Python, as tools/library.py said."""
+    has_a_library()
+    text = "import excp; print(excp.is_proved(), excp.version() == excp.__version__)"
+    ran = run([sys.executable, "-B", "-c", text], env={**os.environ, "PYTHONPATH": f"{TOP}/python", "EXCP_LIBRARY": f"{LIBRARY}/libexcp.so"})
+    require((ran.status, ran.err) == (0, "") and ran.out in ("True True\n", "False True\n"), "another text", ran)
+    return f"the library in out/library is {'proved' if ran.out.startswith('True') else 'not proved'}"
+
+
 def cases(setup):
+    yield Case("the C compiler", needs_a_compiler, "tools/library.py")
+    yield Case("exports with nothing proved", unproved_call_each, "tools/unproved_exports.py")
     yield Case("functions", functions_agree, "c/excp.h")
     yield Case("structs", structs_agree, "c/excp.h")
     yield Case("statuses", statuses_agree, "c/excp.h")
@@ -164,3 +253,6 @@ def cases(setup):
         for linked in "static", "shared":
             judge = lambda n=name, how=linked: runs(n, how)
             yield Case(f"{name}, {linked}", judge, f"tests/cases/c/{name}.c, by c/excp.h and docs/SPECIFICATION.md", "library")
+    yield Case("whether it is proved", says_what_it_is, "c/excp.h", "library")
+    if setup.is_long:
+        yield Case("a library with nothing proved", unproved_works, "tools/library.py --unproved")

@@ -86,7 +86,7 @@ def build():
         elif ran.status:
             LIBRARY["failed"] = ran
     elif not os.path.exists(f"{FOLDER}/libexcp.so"):
-        LIBRARY["lacks"] = "there is no library: tools/library.py proves and builds it"
+        LIBRARY["lacks"] = "there is no library: tools/library.py builds it, with --unproved in minutes"
 
 
 def without_words():

@@ -181,6 +181,21 @@ def has_statuses():
     require(found == {it.name: it.value for it in Status}, f"the program has {found}")
 
 
+def is_one_version():
+    """The package, its wheel, the header of the library and the programs have one version."""
+    import excp
+
+    texts = {
+        "crates/run_options/src/lib.rt": r'^pub const VERSION: &str = "(.*)";$',
+        "python/pyproject.toml": r'^version = "(.*)"$',
+        "c/excp.h": r"^#define EXCP_VERSION_MAJOR (\d+)\n#define EXCP_VERSION_MINOR (\d+)$",
+    }
+    for file, form in texts.items():
+        with open(f"{TOP}/{file}", encoding="utf-8") as it:
+            found = ".".join(re.search(form, it.read(), re.M).groups())
+        require(found == excp.__version__, f"{file} has the version {found}, and the package {excp.__version__}")
+
+
 def has_form(file):
     """A module says what it is for, and is short, as its functions and its lines are."""
     with open(file, encoding="utf-8") as it:
@@ -209,6 +224,7 @@ def cases(setup):
     for word, due in ("chek", "did you mean 'check'?"), ("xyzzy", "excp --help lists them"):
         yield Case(f"a word that is none: {word}", lambda w=word, d=due: suggests(w, d), ORIGIN)
     yield Case("the statuses of excp_tools", has_statuses, "crates/excp_tools/src/main.rt")
+    yield Case("one version", is_one_version, "python/excp/__init__.py")
     yield Case("a word needs no library", needs_no_library, "python/excp/__init__.py")
     for file in sorted(glob.glob(f"{TOP}/python/excp/**/*.py", recursive=True)):
         yield Case(f"the form of {os.path.relpath(file, f'{TOP}/python')}", lambda f=file: has_form(f), FORM)
