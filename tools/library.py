@@ -6,7 +6,7 @@
 
 First it proves crates/excp_c and every crate below it, as `tools/prove.py build` proves the program. It leaves that out if the
 exports were proved of the sources as they are: then it costs a second, also with --unproved. The shared library exports the
-functions of excp.h alone. CC names another C compiler, with options if need be.
+functions of excp.h alone. CC names another C compiler, with options if need be. `make -C c install` installs what is built.
 
 The statuses: 0 done, 2 a fault of the words, 3 there is no C compiler, 4 a check or the C compiler failed, and those of
 tools/prove.py for builds with nothing proved.

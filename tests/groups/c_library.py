@@ -233,6 +233,42 @@ def has_a_library():
         raise Skipped("no library in out/library: tools/library.py builds one")
 
 
+def installs():
+    """`make -C c install` installs the library, with which pkg-config and CMake build the example. A program finds it by its number."""
+    compiler()
+    has_a_library()
+    with tempfile.TemporaryDirectory() as folder:
+        for words in (["PREFIX=/opt/excp", f"DESTDIR={folder}/image"], [f"PREFIX={folder}/own"]):
+            ran = run(["make", "-C", f"{TOP}/c", "install", *words])
+            require(ran.status == 0, "it does not install", ran)
+        names = [os.path.relpath(f"{at}/{it}", f"{folder}/image/opt/excp") for at, _, files in os.walk(f"{folder}/image") for it in files]
+        shared = next((it for it in names if re.fullmatch(r"lib/libexcp\.so\.\d+\.\d+", it)), "")
+        number = shared.rpartition(".")[0]
+        due = ["include/excp.h", "lib/libexcp.a", "lib/libexcp.so", number, shared, "lib/pkgconfig/excp.pc"]
+        require(sorted(names) == sorted(due), f"it installs {sorted(names)}")
+        require("prefix=/opt/excp\n" in read(f"{folder}/image/opt/excp/lib/pkgconfig/excp.pc"), "another prefix in excp.pc")
+        builds_by(folder, number)
+
+
+def builds_by(folder, number):
+    """pkg-config and CMake build copy_tape with the library in own/ of a folder."""
+    due, own = read(f"{TOP}/crates/print_tape/stdout"), {**os.environ, "PKG_CONFIG_PATH": f"{folder}/own/lib/pkgconfig"}
+    lacks = [it for it in ("pkg-config", "cmake") if not shutil.which(it)]
+    if lacks:
+        raise Skipped(f"{' and '.join(lacks)} is not installed, so no program is built with the installed library")
+    example = f"{TOP}/examples/c/copy_tape.c"
+    ran = run(["sh", "-c", f"{compiler()} {example} -o {folder}/copy_tape $(pkg-config --cflags --libs excp)"], env=own)
+    require(ran.status == 0, "pkg-config does not build it", ran)
+    make = f"cmake -S {TOP}/examples/cmake -B {folder}/cmake && cmake --build {folder}/cmake"
+    ran = run(["sh", "-c", make], env=own, timeout=300)
+    require(ran.status == 0, "CMake does not build it", ran)
+    for program in f"{folder}/copy_tape", f"{folder}/cmake/copy_tape":
+        ran = run([program], env={**own, "LD_LIBRARY_PATH": f"{folder}/own/lib"})
+        require((ran.status, ran.out, ran.err) == (0, due, ""), "another output", ran)
+    ran = run([f"{folder}/copy_tape"], env={**own, "LD_LIBRARY_PATH": ""})
+    require(os.path.basename(number) in ran.err, "it does not look for the library by its number", ran)
+
+
 def says_what_it_is():
     """The library that is built says whether it is proved, in C and in Python, as tools/library.py said."""
     has_a_library()
@@ -253,6 +289,7 @@ def cases(setup):
         for linked in "static", "shared":
             judge = lambda n=name, how=linked: runs(n, how)
             yield Case(f"{name}, {linked}", judge, f"tests/cases/c/{name}.c, by c/excp.h and docs/SPECIFICATION.md", "library")
+    yield Case("make install", installs, "docs/CLIENT.md", "library")
     yield Case("whether it is proved", says_what_it_is, "c/excp.h", "library")
     if setup.is_long:
         yield Case("a library with nothing proved", unproved_works, "tools/library.py --unproved")
