@@ -246,6 +246,8 @@ def accepts_no_others(setup):
     is_kept(lambda name: os.symlink("a.script", name), "this command reads or saves it: name another file")
     is_kept(lambda name: os.symlink("a.script", name), "this command reads or saves it: name another file", "--force")
     is_kept(os.mkdir, "it is a directory")
+    is_kept(holds(b"a thesis\n"), "it holds text, which the posts of a job replaces only with --force")
+    is_kept(os.mkfifo, "it is a pipe")
     for content, mode in (image, 0o644), (b"old\n", 0o444):
         with folder_of({"a.script": READ}) as folder:
             holds(content, mode)(f"{folder}/a.posts")
@@ -301,15 +303,18 @@ def writes_legal_xml(setup):
             ran = setup.run("test", "--junit", "x", ".", cwd=folder)
             require(ran.status == 1 and ran.out.endswith(SUM(0, 2, "")) and not ran.err, "another outcome", ran)
             top = ElementTree.parse(f"{folder}/x").getroot()
+        require("\\xff.script" in [it.get("name") for it in top[0]], "another name of bytes that are no character")
         element_by_element(top)
         require(len(top[0]) == 2, "other tests")
 
 
 def writes_no_junit(setup):
     """A report that cannot be written, or that would replace something else, is an error before a test runs."""
-    files = {"a.script": READ, "a.posts": POSTS, "text": "text\n"}
+    other = '<?xml version="1.0"?><testsuites><testsuite name="pytest"/></testsuites>'
+    files = {"a.script": READ, "a.posts": POSTS, "text": "text\n", "other.xml": other}
     for name, words, text in (
         ("text", [], "it holds text, which a JUnit report replaces only with --force"),
+        ("other.xml", [], "it holds text, which a JUnit report replaces only with --force"),
         ("a.script", ["--force"], "this command reads or saves it: name another file"),
         ("a.posts", ["--force"], "this command reads or saves it: name another file"),
         ("none/x.xml", [], "there is no such directory"),

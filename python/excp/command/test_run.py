@@ -2,6 +2,8 @@
 
 from __future__ import annotations
 
+import os
+import stat
 import time
 from dataclasses import dataclass, replace
 from pathlib import Path
@@ -147,6 +149,8 @@ def _of_program(program: str, status: int, errors: bytes) -> _Fails:
 def _content(name: str) -> bytes:
     """The bytes of a file with posts. Raises _Fails."""
     try:
+        if stat.S_ISFIFO(os.stat(name).st_mode):
+            raise _Fails(f"{printable_name(name)}: it is a pipe")
         return Path(name).read_bytes()
     except (OSError, ValueError) as error:
         raise _Fails(f"{printable_name(name)}: {why_unopened(error)}") from None

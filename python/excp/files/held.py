@@ -3,6 +3,7 @@
 from __future__ import annotations
 
 import codecs
+import re
 from enum import Enum
 from typing import BinaryIO
 
@@ -16,6 +17,12 @@ from ..images.reading import disk_image, is_disk
 # The bytes that are looked at for text.
 FIRST_BYTES = 4096
 
+# What a report of `test` begins with, after the declaration of XML.
+_REPORT = re.compile(b'<testsuites name="excp test"')
+
+# The beginning of a line of posts, which may be the last one that is looked at.
+_POST = re.compile(rb"(post|end) |pos?t?$|po?$|p$|en?d?$")
+
 
 class Held(Enum):
     """What a file holds, as an error has it."""
@@ -24,7 +31,8 @@ class Held(Enum):
     PACKED_TAPE = "a compressed tape image"
     DISK = "a disk image"
     OTHER_DISK = "a damaged or compressed disk image"
-    JUNIT = "a JUnit report"
+    JUNIT = "a JUnit report of this command"
+    POSTS = "the posts of a job"
     TEXT = "text"
     OTHER = "other data or a damaged image"
     UNREAD = "what cannot be read"
@@ -67,7 +75,9 @@ def _text_in(first: bytes) -> Held:
     """What a file without an image holds, by its first bytes."""
     if not _is_text(first):
         return Held.OTHER
-    return Held.JUNIT if first.startswith(b"<?xml") and b"<testsuites" in first else Held.TEXT
+    if first.startswith(b"<?xml") and _REPORT.search(first):
+        return Held.JUNIT
+    return Held.POSTS if all(map(_POST.match, first.splitlines())) else Held.TEXT
 
 
 def _is_text(first: bytes) -> bool:

@@ -3,8 +3,8 @@ work, and once more before the new file takes the place of the old one.
 
 - A file that the same call reads or prints to is never replaced, whatever name or link leads to it.
   Only the image that a unit was loaded from is, by that of the same unit.
-- An image replaces an empty file or an image of its format, and text an empty file. `--force` lifts
-  that.
+- An image replaces an empty file or an image of its format, posts replace posts, a JUnit report one
+  of this command, and other text an empty file. `--force` lifts that.
 """
 
 from __future__ import annotations
@@ -45,7 +45,7 @@ DISK = Content("a disk image", frozenset({Held.DISK}))
 # What a unit may be loaded from, and is not saved as.
 PACKED = frozenset({Held.PACKED_TAPE, Held.OTHER_DISK})
 TEXT = Content("new text", frozenset())
-POSTS = Content("the posts of a job", frozenset({Held.TEXT}))
+POSTS = Content("the posts of a job", frozenset({Held.POSTS}))
 JUNIT = Content("a JUnit report", frozenset({Held.JUNIT}))
 
 

@@ -6,7 +6,7 @@ from __future__ import annotations
 import os
 import re
 from datetime import datetime
-from typing import Sequence
+from typing import Match, Sequence
 from xml.etree import ElementTree
 
 from .results import Result, Verdict
@@ -51,7 +51,14 @@ def _add(suite: ElementTree.Element, result: Result) -> None:
 
 
 def _legal(text: str) -> str:
-    return _ILLEGAL.sub(lambda it: f"\\x{ord(it[0]):02x}", text)
+    """A text without what XML has no form for."""
+    return _ILLEGAL.sub(_escaped, text)
+
+
+def _escaped(found: Match[str]) -> str:
+    """A character in hexadecimal, or a byte that is none, which is half of a pair in text."""
+    number = ord(found[0])
+    return f"\\x{number - 0xdc00 if 0xdc80 <= number <= 0xdcff else number:02x}"
 
 
 def _time(seconds: float) -> str:
