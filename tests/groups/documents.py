@@ -67,7 +67,7 @@ def layers_hold():
 # What may be below excp_job, the program of the promises: what reads a script, and what its requests need. Nothing of reports,
 # histories, records, images, steps or outcomes.
 RUN = """io_images io_area device_port ckd_disk tape_unit line_printer any_device ccw_programs subchannel recovery request_piece
-unit_queue unit_book fifo_row signed_list excp_system post_ledger system_threads post_lines script_words job_script job_mount job_run
+unit_queue unit_book serial_order fifo_row signed_list excp_system post_ledger system_threads post_lines script_words job_script job_mount job_run
 run_options excp_job""".split()
 MOST = 28
 

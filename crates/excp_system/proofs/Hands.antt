@@ -1,5 +1,5 @@
 -- Tasks that get their pens.
-use Rattle.std.proofs.Common.{◌≡◌, ◌≢◌, ⊎_elim, ℕ, ◌+◌, ◌<◌, ◌≤◌, List, [], ◌∷◌, ◌++◌, length, map, set, get_or, replicate, Some, refl, sym, ap}
+use Rattle.std.proofs.Common.{Bool, ◌≡◌, ◌≢◌, ⊎_elim, ℕ, ◌+◌, ◌<◌, ◌≤◌, List, [], ◌∷◌, ◌++◌, length, map, set, get_or, replicate, Some, refl, sym, ap}
 use Rattle.std.proofs.Common.{◌∙◌, arith, length-append}
 use Rattle.std.specs.Prelude.{slice_get, slice_index_or, true}
 use Rattle.std.proofs.lemmas.Option.{slice_get-get_or, slice_get_within}
@@ -70,11 +70,12 @@ module _ (s : SiteRows) (tasks place : ℕ) (r : Blank) (is : r.register ≡ s.r
       (sym (get_seam pens [] own) ∙ (ap (λ l. slice_get l (length pens)) (sym last) ∙ (ap (slice_get all) pen_count
       ∙ ends.each tasks (omega (arith, many)))))
 
-  pub is_log : tasks ≡ s.tasks → IsLog s.tasks list own
-  is_log same = record {
+  pub is_log : (own_calls : Bool) → tasks ≡ s.tasks → IsLog own_calls s.tasks list own
+  is_log own_calls same = record {
     pens = ap (λ (l : ListState Control). l.pens) ends.list_is ∙ many ∙ ap (λ n. n + 1) same;
     number = ap (λ (p : Signing Control). p.number) own_is ∙ same;
     register = ap (λ (p : Signing Control). p.register) own_is ∙ sym (ap (λ (l : ListState Control). l.register) ends.list_is);
+    unsigned = λ _. ap (λ (p : Signing Control). p.signed) own_is;
   }
 
   pub pens_fit : (t : ℕ) (p : Signing Control) → slice_get pens t ≡ Some p → p ≡ pen_of s t place []

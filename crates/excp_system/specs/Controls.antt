@@ -9,8 +9,10 @@ use Rattle.unit_book.specs.declared.entry.Entry.{Entry}
 use Rattle.unit_book.specs.declared.entry.Entry.TheVariants as entry
 use Rattle.unit_book.specs.Answers.{Adds}
 use Rattle.unit_book.specs.Book.{Book}
-use Rattle.unit_book.specs.Controls.{ClosesBook, PurgesBook}
+use Rattle.unit_book.specs.Controls.{ClosesBook, DcbRefused, PurgesBook, ResetRefused}
 use Rattle.unit_book.specs.Dcbs.{is_open, is_opened}
+use Rattle.unit_book.specs.Refusals.{CloseLacks, PurgeLacks, ResetLacks}
+use Rattle.unit_book.specs.Trace.{is_opening}
 use Rattle.signed_list.specs.Signed.{ListState, RegisterName, Signing, items_of}
 use Rattle.excp_system.specs.declared.control.Control.{Control}
 use Rattle.excp_system.specs.declared.control.Control.TheVariants.{Purge, Close, Reset}
@@ -32,18 +34,29 @@ makes_none (Purge (Task task) mode) H = false
 makes_none (Close dcb) H = not (is_open dcb H)
 makes_none (Reset dcb) H = not (is_open dcb H)
 
--- THE CONTROLS OF A TRACE are these, in order: each made its entry, or found its DCB closed, and no other entry is of a
--- control
-pub data Controlled : List Control → List Entry → Type 0 where
-  Begins : Controlled [] []
-  Goes : {asked : List Control} {H : List Entry} (e : Entry) → control_of e ≡ None → Controlled asked H → Controlled asked (e ∷ H)
-  Makes : {asked : List Control} {H : List Entry} (c : Control) (e : Entry) → control_of e ≡ Some c → Controlled asked H →
-      Controlled (asked ++ c ∷ []) (e ∷ H)
-  MakesNone : {asked : List Control} {H : List Entry} (c : Control) → makes_none c H ≡ true → Controlled asked H →
-      Controlled (asked ++ c ∷ []) H
+-- an entry that is neither of a control nor of an opening
+abbrev pub is_quiet : Entry → Bool
+is_quiet (entry.Opened dcb method extents) = false
+is_quiet (entry.Purge scope mode) = false
+is_quiet (entry.Close dcb) = false
+is_quiet (entry.Reset dcb) = false
+is_quiet _ = true
+
+-- THE CONTROLS OF A TRACE since this first one are these, in order: each made its entry, or makes none (`makes_none`) when
+-- it is asked, and no other entry is of a control. A DCB is opened only if a unit's own calls may be used
+pub data Controlled (own_calls : Bool) (first : List Entry) : List Control → List Entry → Type 0 where
+  Begins : Controlled own_calls first [] first
+  Goes : {asked : List Control} {H : List Entry} (e : Entry) → is_quiet e ≡ true → Controlled own_calls first asked H →
+      Controlled own_calls first asked (e ∷ H)
+  Opens : {asked : List Control} {H : List Entry} (e : Entry) → own_calls ≡ true → is_opening e ≡ true →
+      Controlled own_calls first asked H → Controlled own_calls first asked (e ∷ H)
+  Makes : {asked : List Control} {H : List Entry} (c : Control) (e : Entry) → control_of e ≡ Some c →
+      Controlled own_calls first asked H → Controlled own_calls first (asked ++ c ∷ []) (e ∷ H)
+  MakesNone : {asked : List Control} {H : List Entry} (c : Control) → makes_none c H ≡ true →
+      Controlled own_calls first asked H → Controlled own_calls first (asked ++ c ∷ []) H
 
 -- THE LOG OF A UNIT: the register of its controls, and each control that was asked, with the number of the task that
--- asked it, or that of the tasks where the unit's own calls did
+-- asked it. The number of one that a unit's own call asked is the count of tasks
 pub record LogState : Type 0 where
   pub register : RegisterName
   pub asked : List (ℕ × Control)
@@ -53,16 +66,21 @@ abbrev pub logged : Bool → ℕ → Control → LogState → LogState
 logged false number c l = l
 logged true number c l = record l { asked = l.asked ++ (number, c) ∷ [] }
 
--- the list, with a pen for each task and one more, which is the unit's own
-pub record IsLog (tasks : ℕ) (list : ListState Control) (own : Signing Control) : Type 0 where
+-- the list, with a pen for each task and one more, which is the unit's own. If its own calls may not be used, that pen
+-- signed nothing
+pub record IsLog (own_calls : Bool) (tasks : ℕ) (list : ListState Control) (own : Signing Control) : Type 0 where
   pub pens : list.pens ≡ tasks + 1
   pub number : own.number ≡ tasks
   pub register : own.register ≡ list.register
+  pub unsigned : own_calls ≡ false → own.signed ≡ []
 
--- a unit's log is on its register, and has the controls of its trace
-pub record KeepsLog (s : SiteRows) (unit : ℕ) (l : LogState) (H : List Entry) : Type 0 where
+-- a unit's log is on its register, and has the controls of its trace since that of the book that was handed in for it
+pub record KeepsLog {D : Type 0} (s : SiteRows) (own_calls : Bool) (opened : List (Book D)) (unit : ℕ) (l : LogState)
+    (H : List Entry) : Type 0 where
   pub register : l.register ≡ s.register unit
-  pub controlled : Controlled (items_of l.asked) H
+  pub first : Book D
+  pub is : slice_get opened unit ≡ Some first
+  pub controlled : Controlled own_calls first.trace (items_of l.asked) H
 
 -- THE PENS OF A TASK, one for each unit: its number, and what it asked of each
 pub record PensState : Type 0 where
@@ -78,6 +96,7 @@ abbrev pub asks : Bool → ℕ → Control → List (List Control) → List (Lis
 asks false unit c asked = asked
 asks true unit c asked = slice_set asked unit (asked_of asked unit ++ c ∷ [])
 
+-- the pen of a task for a unit, which signed this
 abbrev pub pen_of : SiteRows → ℕ → ℕ → List Control → Signing Control
 pen_of s number unit signed = record { register = s.register unit; number = number; signed = signed }
 
@@ -101,7 +120,15 @@ is_asked (Ok a) = true
 is_asked (Err NoSuchDcb) = true
 is_asked (Err NoMemory) = false
 
--- when a control is refused, the first reason in this order
+-- when a control is refused: a purge of a task only if memory runs out, and each other as the call of the book
 abbrev pub ControlRefused : {D : Type 0} → Book D → Control → DcbError → Type 0
-ControlRefused b c NoSuchDcb = makes_none c b.trace ≡ true
-ControlRefused b c NoMemory = makes_none c b.trace ≡ false
+ControlRefused b (Purge (Dcb dcb) mode) error = DcbRefused b dcb error
+ControlRefused b (Purge (Task task) mode) error = error ≡ NoMemory
+ControlRefused b (Close dcb) error = DcbRefused b dcb error
+ControlRefused b (Reset dcb) error = ResetRefused b dcb error
+
+-- when a control wants memory
+abbrev pub ControlLacks : {D : Type 0} → Book D → Control → Type 0
+ControlLacks b (Purge scope mode) = PurgeLacks b
+ControlLacks b (Close dcb) = CloseLacks b dcb
+ControlLacks b (Reset dcb) = ResetLacks b

@@ -95,11 +95,11 @@ pub record AreBooks {D : Type 0} (units : ℕ) (books : List (Book D)) : Type 0 
   pub count_is : length books ≡ units
   pub opened : (unit : ℕ) (b : Book D) → slice_get books unit ≡ Some b → list_all is_opening b.trace ≡ true
 
--- a task that has sent nothing to any of these units, and collected nothing
+-- a task that has sent nothing to any of these units, asked no control of them, and collected nothing
 abbrev pub fresh_task : ℕ → ℕ → TaskState
 fresh_task units number = record { number = number; sent = replicate units []; got = []; asked = replicate units [] }
 
--- tasks that have sent and collected nothing, each at the place of its number
+-- tasks that have sent, asked and collected nothing, each at the place of its number
 pub record AreTasks (count units : ℕ) (tasks : List TaskState) : Type 0 where
   pub count_is : length tasks ≡ count
   pub each : (t : ℕ) (w : TaskState) → slice_get tasks t ≡ Some w → w ≡ fresh_task units t

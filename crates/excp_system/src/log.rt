@@ -1,6 +1,6 @@
 //! The log of a unit: which controls were asked of it, in order, and by whom.
 
-ghost use Rattle.std.specs.Prelude.{◌≡◌, ◌<◌, ◌++◌, ◌∷◌, ℕ, [], true};
+ghost use Rattle.std.specs.Prelude.{◌≡◌, ◌<◌, ◌++◌, ◌∷◌, ℕ, [], false, true};
 ghost use Rattle.signed_list.specs.Signed.{signed_by};
 ghost use Rattle.excp_system.specs.Controls.{IsLog, logged};
 
@@ -24,13 +24,13 @@ impl<'r, S: Site> Model for Log<'r, S> {
 
     ghost view = { λ l. record { register = l.list.register; asked = l.list.all } };
 
-    ghost invariant = { λ l. IsLog S.rows.tasks l.list l.own };
+    ghost invariant = { λ l. IsLog S.own_calls S.rows.tasks l.list l.own };
 }
 
 impl<'r, S: Site> Log<'r, S> {
     /// The log with this list and this pen of the unit's own.
     pub(crate) fn new(list: SignedList<'r, Control>, own: Pen<'r, Control>) -> Log<'r, S>
-        requires { IsLog S.rows.tasks list own }
+        requires { IsLog S.own_calls S.rows.tasks list own }
         ensures { result ≡ record { register = list.entry.register; asked = list.entry.all } }
     {
         Log {
@@ -40,11 +40,12 @@ impl<'r, S: Site> Log<'r, S> {
         }
     }
 
-    /// Notes a control that the unit's own calls made, if `is_made`. It takes no memory.
-    pub(crate) fn note(&mut self, is_made: bool, control: Control)
-        ensures { self.new ≡ logged is_made S.rows.tasks control self.old }
+    /// Notes a control that one of the unit's own calls asked, if `is_asked`. It takes no memory.
+    pub(crate) fn note(&mut self, is_asked: bool, control: Control)
+        requires { S.own_calls ≡ true }
+        ensures { self.new ≡ logged is_asked S.rows.tasks control self.old }
     {
-        if is_made {
+        if is_asked {
             self.list.sign(&mut self.own, &control);
         }
     }
@@ -69,11 +70,13 @@ impl<'r, S: Site> Log<'r, S> {
     }
 
     /// Shows that only the tasks and the unit's own calls asked anything, the latter under the number after those of the
-    /// tasks. It takes no memory.
+    /// tasks. If a unit's own calls may not be used, they asked nothing. It takes no memory.
     pub fn holds(&mut self)
         ensures log { self.new ≡ self.old }
         ensures no_other { (k : ℕ) → S.rows.tasks < k → signed_by k self.old.asked ≡ [] }
+        ensures no_own { S.own_calls ≡ false → signed_by S.rows.tasks self.old.asked ≡ [] }
     {
+        self.list.audit(&mut self.own);
         self.list.holds();
     }
 }

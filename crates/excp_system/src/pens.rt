@@ -52,14 +52,14 @@ impl<'r, S: Site> Pens<'r, S> {
         Ok(())
     }
 
-    /// Notes in the log of a unit a control that the task asked, if `is_made`. It takes no memory.
-    pub(crate) fn note(&mut self, unit: u16, log: &mut Log<'_, S>, is_made: bool, control: Control)
+    /// Notes in the log of a unit a control that the task asked, if `is_asked`. It takes no memory.
+    pub(crate) fn note(&mut self, unit: u16, log: &mut Log<'_, S>, is_asked: bool, control: Control)
         requires unit { unit < length self.old.asked }
         requires log { log.old.register ≡ S.rows.register unit }
-        ensures log { log.new ≡ logged is_made self.old.number control log.old }
-        ensures pens { self.new ≡ record { number = self.old.number; asked = asks is_made unit control self.old.asked } }
+        ensures log { log.new ≡ logged is_asked self.old.number control log.old }
+        ensures pens { self.new ≡ record { number = self.old.number; asked = asks is_asked unit control self.old.asked } }
     {
-        if is_made {
+        if is_asked {
             let pen = &mut self.pens[usize::from(unit)];
             log.sign(pen, control);
         }

@@ -2,18 +2,26 @@
 
 use std::marker::{Brand, PhantomData};
 
-/// The rows of one system. It has no calls. Code that makes a system is generic in it, and is called with [`Brand`]. So
-/// what comes back from a lock or a thread is on that system's rows.
+/// The rows of one system, and whether its units' own calls may be used. It has no calls. Code that makes a system is
+/// generic in it, and is called with [`Brand`]. So what comes back from a lock or a thread is on that system's rows.
 pub trait Site {
+    ghost use Rattle.std.specs.Prelude.{Bool};
     ghost use Rattle.excp_system.specs.Sites.{SiteRows};
 
     ghost rows: { SiteRows };
+
+    // whether `open`, `purge`, `purge_task`, `close` and `reset` of a unit may be called. If not, each control is one that
+    // a task asked, and no DCB is opened after the system was made
+    ghost own_calls: { Bool };
 }
 
 impl Site for Brand {
+    ghost use Rattle.std.specs.Prelude.{true};
     ghost use Rattle.excp_system.specs.Sites.{no_rows};
 
     ghost rows = { no_rows };
+
+    ghost own_calls = { true };
 }
 
 /// The books that the units of a site began with, in order of unit. It has no calls. A call that makes a system

@@ -1,6 +1,6 @@
 //! Units under locks.
 
-ghost use Rattle.std.specs.Prelude.{◌≡◌, ◌<◌, ◌≤◌, ◌^◌, IfErr, IfOk, vec_capacity, vec_len};
+ghost use Rattle.std.specs.Prelude.{◌≡◌, ◌<◌, ◌≤◌, ◌^◌, true, IfErr, IfOk, vec_capacity, vec_len};
 ghost use Rattle.excp_system.specs.Opening.{AreBooks, AreFans, AreFresh, AreHands, AreHandlers, AreLogs, AreTakers, AreTasks, site_of};
 ghost use Rattle.excp_system.specs.Sites.{intake_rows, notice_rows, post_rows};
 
@@ -74,6 +74,7 @@ impl<'r, S: Opened<D>, D: Device> System<'r, S, D> {
         task: u16,
         mode: Mode,
     ) -> Result<Vec<Result<Purging, AllocError>>, AllocError>
+        requires { S.own_calls ≡ true }
         ensures { IfOk result (λ answers. vec_len answers ≡ S.rows.units) }
     {
         let count = self.locks.len();

@@ -3,7 +3,7 @@
 ghost use Rattle.std.specs.Prelude.{◌≡◌, ◌<◌, ◌≤◌, ◌-◌, ◌^◌, length, IfErr, IfNone, IfOk, IfSome, OnErr, OnOk};
 ghost use Rattle.std.specs.List.{All};
 ghost use Rattle.fifo_row.specs.Lists.{of};
-ghost use Rattle.excp_system.specs.Controls.{ControlRefused, ControlsBook};
+ghost use Rattle.excp_system.specs.Controls.{ControlLacks, ControlRefused, ControlsBook};
 ghost use Rattle.excp_system.specs.Notices.{Notifies, became_pending};
 ghost use Rattle.excp_system.specs.Calls.{Asks, TaskCollects, IntakeWasFull, Issues, PostRowWasEmpty, next_name};
 ghost use Rattle.excp_system.specs.Sites.{unit_of};
@@ -74,6 +74,7 @@ impl<'r, S: Site> Task<'r, S> {
     pub fn holds(&self)
         ensures of_site { self.now.number < S.rows.tasks }
         ensures count { length self.now.sent ≡ S.rows.units }
+        ensures asked { length self.now.asked ≡ S.rows.units }
         ensures few_units { S.rows.units < 2 ^ 16 }
         ensures few { All (λ requests. length requests ≤ 2 ^ 32 - 1) self.now.sent }
     {
@@ -148,11 +149,11 @@ impl<'r, S: Site> Task<'r, S> {
         }
     }
 
-    /// Asks a control of a unit whose lock is held. If that halts the active program, the unit's interruption handler gets
-    /// a notice. Whatever other threads do, the control is in the unit's trace or found its DCB closed there, with the other
-    /// controls of the task in the order in which it asked them.
+    /// Asks a control of a unit whose lock is held, and signs it in the unit's log with the task's pen, unless memory runs
+    /// out. If that halts the active program, the unit's interruption handler gets a notice, or is owed one if its row is
+    /// full.
     ///
-    /// Errors: those of the book, which change nothing. Unless memory ran out, the control was asked.
+    /// Errors: those of the book, which leave the unit as it was. Unless memory ran out, the control was asked.
     pub fn control<D: Device, R: Wait>(
         &mut self,
         rt: &R,
@@ -164,6 +165,7 @@ impl<'r, S: Site> Task<'r, S> {
         ensures asked { Asks result self.old unit.old.unit control self.new }
         ensures ok { IfOk result (λ answer. ControlsBook D.meaning unit.old.book control answer unit.new.book) }
         ensures refused { IfErr result (ControlRefused unit.old.book control) }
+        ensures full { IfErr result (λ e. e ≡ DcbError.NoMemory → ControlLacks unit.old.book control) }
         ensures err { OnErr result (unit.new ≡ unit.old) }
         ensures notice { Notifies S.rows (became_pending D.meaning unit.old.book unit.new.book) unit.old unit.new }
     {

@@ -51,7 +51,7 @@ impl<'r, S: Opened<D>, D: Device> Model for UnitState<'r, S, D> {
     ghost view = { λ u. record { unit = u.unit; book = u.book; notified = u.notice.sent; owes = u.owes } };
 
     ghost invariant = { λ u. IsUnit D.meaning S.rows (record { unit = u.unit; book = u.book; notified = u.notice.sent; owes = u.owes }) u.intake u.back u.notice
-        × Began S.opened u.unit u.book × KeepsLog S.rows u.unit u.log u.book.trace };
+        × Began S.opened u.unit u.book × KeepsLog S.rows S.own_calls S.opened u.unit u.log u.book.trace };
 }
 
 impl<'r, S: Opened<D>, D: Device> UnitState<'r, S, D> {
@@ -66,7 +66,7 @@ impl<'r, S: Opened<D>, D: Device> UnitState<'r, S, D> {
     ) -> UnitState<'r, S, D>
         requires ends { IsUnit D.meaning S.rows (owing_nothing unit book notice.sent) intake back notice }
         requires opened { slice_get S.opened unit ≡ Some book }
-        requires log { KeepsLog S.rows unit log book.trace }
+        requires log { KeepsLog S.rows S.own_calls S.opened unit log book.trace }
         ensures { result ≡ owing_nothing unit book notice.entry.sent }
     {
         UnitState {
@@ -208,7 +208,7 @@ impl<'r, S: Opened<D>, D: Device> UnitState<'r, S, D> {
         Log<'r, S>,
     )
         ensures book { result.0 ≡ self.entry.book }
-        ensures log { KeepsLog S.rows self.entry.unit result.4 self.entry.book.trace }
+        ensures log { KeepsLog S.rows S.own_calls S.opened self.entry.unit result.4 self.entry.book.trace }
         ensures ends { IsUnit D.meaning S.rows self.entry result.1 result.2 result.3 }
     {
         let UnitState {

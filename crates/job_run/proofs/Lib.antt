@@ -6,6 +6,8 @@ pub mod Walk
 pub mod Stops
 pub mod Filled
 pub mod Requested
+pub mod Asked
+pub mod Uncontrolled
 pub mod Firsts
 pub mod Places
 pub mod Marks

@@ -35,14 +35,15 @@ use Rattle.job_run.proofs.Places.{all-append, at, by_all_at, by_all_length, list
 use Rattle.job_run.proofs.Rans.{own_of}
 
 -- the tasks do the commands of the script
-pub does_accounts : {N : Type 0} (script : Script) (units count : ℕ) (report : ReportState AnyDevice)
-    (outcomes : List (Result (TaskEnd N) TaskError)) → Accounts any_device (RunsScript script) units count report outcomes →
-    Accounts any_device (DoesScript script.commands.items) units count report outcomes
-does_accounts script units count report outcomes a = record {
+pub does_accounts : {N : Type 0} (script : Script) (units count : ℕ) (opened : List (Book AnyDevice)) (report : ReportState AnyDevice)
+    (outcomes : List (Result (TaskEnd N) TaskError)) → Accounts any_device (RunsScript script) units count opened report outcomes →
+    Accounts any_device (DoesScript script.commands.items) units count opened report outcomes
+does_accounts script units count opened report outcomes a = record {
   tasks = a.tasks;
   placed = a.placed;
   run = record { count_is = a.run.count_is; each = λ t w o at_t at_o. (a.run.each t w o at_t at_o).does };
   received = a.received;
+  controlled = a.controlled;
   posted_once = a.posted_once;
   returned = a.returned;
 }
@@ -58,8 +59,8 @@ there_is f [] k x is = absurd (cc is)
 there_is f (y ∷ xs) zero x is = ap f (cc is)
 there_is f (y ∷ xs) (suc k) x is = there_is f xs k x is
 
-module _ {N : Type 0} (script : Script) (units count : ℕ) (report : ReportState AnyDevice)
-    (outcomes : List (Result (TaskEnd N) TaskError)) (a : Accounts any_device (RunsScript script) units count report outcomes)
+module _ {N : Type 0} (script : Script) (units count : ℕ) (opened : List (Book AnyDevice)) (report : ReportState AnyDevice)
+    (outcomes : List (Result (TaskEnd N) TaskError)) (a : Accounts any_device (RunsScript script) units count opened report outcomes)
     (last : List (TaskEnd N)) (e : EndedBy report.lists outcomes last) (is_for : IsFor units count report)
     (same : script.set_up.tasks ≡ count) (sized : vec_len script.set_up.units ≡ units) where
   -- a task, and what its slots hold that it has left
@@ -140,15 +141,15 @@ module _ {N : Type 0} (script : Script) (units count : ℕ) (report : ReportStat
       ∙ ap (λ (k : ℕ). books_text (said script).commands k 0 report.books) (sym zero_is))
 
 -- what follows of a run that ended
-pub printed_of : {N : Type 0} (r : Result (Finished N) JobError) (script : Script) (units count : ℕ) (report : ReportState AnyDevice)
-    (outcomes : List (Result (TaskEnd N) TaskError)) → Accounts any_device (RunsScript script) units count report outcomes →
+pub printed_of : {N : Type 0} (r : Result (Finished N) JobError) (script : Script) (units count : ℕ)
+    (opened : List (Book AnyDevice)) (report : ReportState AnyDevice) (outcomes : List (Result (TaskEnd N) TaskError)) → Accounts any_device (RunsScript script) units count opened report outcomes →
     IsFor units count report → script.set_up.tasks ≡ count → vec_len script.set_up.units ≡ units →
     IfOk r (λ finished. finished.report ≡ report) → IfOk r (λ finished. EndedBy report.lists outcomes finished.tasks.items) →
     IfOk r (λ finished. tasks_text 0 (map ended_slots finished.tasks.items) ≡ script_text (said script) finished.report.books)
-printed_of (Ok f) script units count report outcomes a is_for same sized is ended =
-    printed script units count report outcomes a f.tasks.items ended is_for same sized
+printed_of (Ok f) script units count opened report outcomes a is_for same sized is ended =
+    printed script units count opened report outcomes a f.tasks.items ended is_for same sized
     ∙ ap (λ (x : ReportState AnyDevice). script_text (said script) x.books) (sym is)
-printed_of (Err fault) script units count report outcomes a is_for same sized is ended = tt
+printed_of (Err fault) script units count opened report outcomes a is_for same sized is ended = tt
 
 -- the outcomes are the ends of these tasks
 pub all_made : {A E : Type 0} (tasks : List A) (rest outcomes : List (Result A E)) → map (own_of {E = E}) tasks ++ rest ≡ outcomes →

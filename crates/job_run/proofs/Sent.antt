@@ -7,7 +7,7 @@ use Rattle.job_script.specs.declared.command.Command.{Command}
 use Rattle.job_run.specs.declared.task_error.TaskError.{TaskError}
 use Rattle.job_run.specs.declared.task_error.TaskError.TheVariants as errors
 use Rattle.job_run.specs.Faults.{fault_at}
-use Rattle.job_run.specs.Sending.{DoesScript, EndsEarly, Fails, SendsFirst, StopsAt, does_all, sends, sends_all}
+use Rattle.job_run.specs.Sending.{DoesScript, EndsEarly, Fails, SendsFirst, StopsAt, asks_all, does_all, sends, sends_all}
 use Rattle.job_run.specs.declared.command_fault.CommandFault.{CommandFault}
 use Rattle.job_run.proofs.Walk.{IsNext}
 
@@ -35,10 +35,10 @@ sends_none task commands sent = record { before = []; others = commands; split =
 
 -- a task does its script, by what it has done at its end
 pub does_script : {L : Type 0} (r : Result L TaskError) (commands : List Command) (old new : TaskState) →
-    OnOk r (new.sent ≡ sends_all old.number commands old.sent) → OnOk r (awaited_count new ≡ 0) →
-    IfErr r (EndsEarly old.number commands old.sent new.sent) → DoesScript commands old new r
-does_script (Ok x) commands old new sent awaits early = (sent, awaits)
-does_script (Err e) commands old new sent awaits early = early
+    OnOk r (new.sent ≡ sends_all old.number commands old.sent) → OnOk r (new.asked ≡ asks_all old.number commands old.asked) →
+    OnOk r (awaited_count new ≡ 0) → IfErr r (EndsEarly old.number commands old.sent new.sent) → DoesScript commands old new r
+does_script (Ok x) commands old new sent asked awaits early = (sent, asked, awaits)
+does_script (Err e) commands old new sent asked awaits early = early
 
 -- a task that runs out of memory has sent what its first commands send
 pub ends_full : {A : Type 0} (r : Result A TaskError) (task : ℕ) (commands : List Command) (old new : List (List Piece)) →

@@ -12,6 +12,8 @@ use Rattle.unit_book.specs.WorldLaws.{posts_of}
 use Rattle.fifo_row.specs.Lists.{of}
 use Rattle.excp_system.specs.Sites.{task_of}
 use Rattle.job_script.specs.Said.{Said}
+use Rattle.serial_order.specs.Laws.{IsUncontrolled}
+use Rattle.job_run.specs.Controls.{AsksNone}
 use Rattle.job_run.specs.Requests.{excps, requests_from}
 
 -- the task has no fault: it did all its commands
@@ -20,7 +22,7 @@ IsDone (Ok x) = Unit {0}
 IsDone (Err e) = ⊥
 
 -- each trace is legal and idle; what arrived at each unit is of tasks of the script, of each task the requests of its EXCPs
--- there, in order; and each of them has one post
+-- there, in order; each of them has one post; and the trace of a unit that the script asks no control has none
 pub record Ran (s : Said) (books : List (Book AnyDevice)) : Type 0 where
   pub count : length books ≡ length s.set_up.units
   pub legal : All (λ b. Legal any_device b.mounted b.trace) books
@@ -30,3 +32,4 @@ pub record Ran (s : Said) (books : List (Book AnyDevice)) : Type 0 where
       of task_of t (arrivals b.trace) ≡ requests_from t 1 (excps t u s.commands)
   pub posted_once : (t u : ℕ) (b : Book AnyDevice) → t < s.set_up.tasks → slice_get books u ≡ Some b →
       Each (λ r. posts_of r.name b.trace ≡ 1) (requests_from t 1 (excps t u s.commands))
+  pub uncontrolled : (u : ℕ) (b : Book AnyDevice) → slice_get books u ≡ Some b → AsksNone s u → IsUncontrolled any_device b.mounted b.trace

@@ -1,11 +1,15 @@
--- WHAT A TASK SENDS by the commands of a script, and why a command fails (profile).
-use Rattle.std.specs.Prelude.{◌≡◌, ◌≤◌, ◌+◌, ◌-◌, ◌^◌, ◌==◌, ℕ, List, [], ◌∷◌, ◌++◌, length, slice_index_or, slice_set, if◌then◌else◌}
+-- WHAT A TASK SENDS AND ASKS by the commands of a script, and why a command fails (profile).
+use Rattle.std.specs.Prelude.{◌≡◌, ◌≤◌, ◌+◌, ◌-◌, ◌^◌, ◌==◌, ℕ, true, List, [], ◌∷◌, ◌++◌, length, map, slice_index_or, slice_set, if◌then◌else◌}
 use Rattle.std.specs.Prelude.{Result, Ok, Err}
 use Rattle.std.specs.Arc.{arc_value}
 use Rattle.request_piece.specs.Requests.{request_of}
 use Rattle.request_piece.specs.declared.piece.Name.{Name}
 use Rattle.request_piece.specs.declared.piece.Piece.{Piece}
+use Rattle.request_piece.specs.declared.scope.Scope.TheVariants as scopes
+use Rattle.excp_system.specs.Controls.{asks}
 use Rattle.excp_system.specs.States.{TaskState, awaited_count}
+use Rattle.excp_system.specs.declared.control.Control.{Control}
+use Rattle.excp_system.specs.declared.control.Control.TheVariants as controls
 use Rattle.job_script.specs.declared.command.Action.{Action}
 use Rattle.job_script.specs.declared.command.Action.TheVariants.{Excp, Purge, PurgeTask, Close, Reset, Wait}
 use Rattle.job_script.specs.declared.command.Command.{Command}
@@ -35,6 +39,19 @@ sends task (Close dcb) sent = sent
 sends task (Reset dcb) sent = sent
 sends task Wait sent = sent
 
+-- a control is asked of every unit; `asked` is what the task has asked of each unit
+abbrev pub asks_each : Control → List (List Control) → List (List Control)
+asks_each c asked = map (λ l. l ++ c ∷ []) asked
+
+-- a purge, a close or a reset of a DCB is asked of the DCB's unit, and a purge of a task of every unit. No other command asks
+abbrev pub asks_of : Action → List (List Control) → List (List Control)
+asks_of (Excp e) asked = asked
+asks_of (Purge dcb mode) asked = asks true dcb.unit (controls.Purge (scopes.Dcb dcb.number) mode) asked
+asks_of (PurgeTask other mode) asked = asks_each (controls.Purge (scopes.Task other) mode) asked
+asks_of (Close dcb) asked = asks true dcb.unit (controls.Close dcb.number) asked
+asks_of (Reset dcb) asked = asks true dcb.unit (controls.Reset dcb.number) asked
+asks_of Wait asked = asked
+
 -- what the commands of a task make of something: its own alone, one after the other
 unfoldable pub does_all : {S : Type 0} → (Action → S → S) → ℕ → List Command → S → S
 does_all does task [] s = s
@@ -43,6 +60,10 @@ does_all does task (c ∷ others) s = does_all does task others (if c.task == ta
 -- what they send
 abbrev pub sends_all : ℕ → List Command → List (List Piece) → List (List Piece)
 sends_all task commands sent = does_all (sends task) task commands sent
+
+-- what they ask
+abbrev pub asks_all : ℕ → List Command → List (List Control) → List (List Control)
+asks_all task commands asked = does_all asks_of task commands asked
 
 -- an EXCP fails if memory runs out, or if the task has used its last number at the unit
 abbrev pub ExcpFails : OneExcp → List (List Piece) → CommandFault → Type 0
@@ -83,7 +104,9 @@ abbrev pub EndsEarly : ℕ → List Command → List (List Piece) → List (List
 EndsEarly task commands old new (errors.Line line name) = StopsAt task commands old new (errors.Line line name)
 EndsEarly task commands old new errors.NoMemory = SendsFirst task commands old new
 
--- a task does its commands of a script to their end, and collects at least as many posts as it sent requests; or it ends early
+-- a task does its commands of a script to their end, or ends early. At their end it has sent and asked what they say, and
+-- collected at least as many posts as it sent requests
 abbrev pub DoesScript : {L : Type 0} → List Command → TaskState → TaskState → Result L TaskError → Type 0
-DoesScript commands old new (Ok lines) = (new.sent ≡ sends_all old.number commands old.sent) × (awaited_count new ≡ 0)
+DoesScript commands old new (Ok lines) =
+    (new.sent ≡ sends_all old.number commands old.sent) × (new.asked ≡ asks_all old.number commands old.asked) × (awaited_count new ≡ 0)
 DoesScript commands old new (Err fault) = EndsEarly old.number commands old.sent new.sent fault

@@ -7,7 +7,7 @@ ghost use Rattle.job_mount.specs.Requests.{CanBeDone, CanIssue};
 ghost use Rattle.job_script.specs.Commands.{NamesUnits};
 ghost use Rattle.post_lines.specs.Slots.{slots_of};
 ghost use Rattle.job_run.specs.Filling.{FillsSlots, slots_for};
-ghost use Rattle.job_run.specs.Sending.{EndsEarly, ExcpFails, Fails, StopsAt, sends, sends_all, sends_excp, sends_one};
+ghost use Rattle.job_run.specs.Sending.{EndsEarly, ExcpFails, Fails, StopsAt, asks_all, asks_of, sends, sends_all, sends_excp, sends_one};
 
 use crate::command_fault::CommandFault;
 use crate::notes::Notes;
@@ -74,6 +74,7 @@ impl<'a, 'r, S: Opened<AnyDevice>> Job<'a, 'r, S> {
         ensures number { client.new.number ≡ client.old.number }
         ensures noted { IfOk result (λ end. FillsSlots client.old.got (slots_for self.now.script.now client.old.number) client.new.got (slots_of end.slots)) }
         ensures sent { OnOk result (client.new.sent ≡ sends_all client.old.number self.now.script.now.commands.items client.old.sent) }
+        ensures asked { OnOk result (client.new.asked ≡ asks_all client.old.number self.now.script.now.commands.items client.old.asked) }
         ensures awaits_none { OnOk result (awaited_count client.new ≡ 0) }
         ensures stopped { IfErr result (EndsEarly client.old.number self.now.script.now.commands.items client.old.sent client.new.sent) }
     {
@@ -94,6 +95,7 @@ impl<'a, 'r, S: Opened<AnyDevice>> Job<'a, 'r, S> {
         ensures number { client.new.number ≡ client.old.number }
         ensures noted { FillsSlots client.old.got (slots_of slots.old) client.new.got (slots_of slots.new) }
         ensures sent { OnOk result (client.new.sent ≡ sends_all client.old.number self.now.script.now.commands.items client.old.sent) }
+        ensures asked { OnOk result (client.new.asked ≡ asks_all client.old.number self.now.script.now.commands.items client.old.asked) }
         ensures awaits_none { OnOk result (awaited_count client.new ≡ 0) }
         ensures stopped { IfErr result (EndsEarly client.old.number self.now.script.now.commands.items client.old.sent client.new.sent) }
     {
@@ -103,7 +105,8 @@ impl<'a, 'r, S: Opened<AnyDevice>> Job<'a, 'r, S> {
     }
 
     /// Does the commands of a task, in order, up to the first fault. Whatever other threads do, the task sends the requests
-    /// of its commands, in their order, and no other.
+    /// of its commands, in their order, and no other. If no command fails, it asks of each unit the purges, closes and
+    /// resets of its commands there, in their order, and no other.
     ///
     /// Errors: the first command that fails, as an `excp` after the last number; out of memory.
     pub fn commands<R: Wait, N: Notes>(
@@ -117,6 +120,7 @@ impl<'a, 'r, S: Opened<AnyDevice>> Job<'a, 'r, S> {
         ensures number { client.new.number ≡ client.old.number }
         ensures noted { FillsSlots client.old.got (slots_of slots.old) client.new.got (slots_of slots.new) }
         ensures sent { OnOk result (client.new.sent ≡ sends_all client.old.number self.now.script.now.commands.items client.old.sent) }
+        ensures asked { OnOk result (client.new.asked ≡ asks_all client.old.number self.now.script.now.commands.items client.old.asked) }
         ensures stopped { IfErr result (StopsAt client.old.number self.now.script.now.commands.items client.old.sent client.new.sent) }
     {
         for place in self.script.places_of(client.number()) {
@@ -143,6 +147,7 @@ impl<'a, 'r, S: Opened<AnyDevice>> Job<'a, 'r, S> {
         ensures number { client.new.number ≡ client.old.number }
         ensures noted { FillsSlots client.old.got (slots_of slots.old) client.new.got (slots_of slots.new) }
         ensures sent { OnOk result (client.new.sent ≡ sends client.old.number command.now.action client.old.sent) }
+        ensures asked { OnOk result (client.new.asked ≡ asks_of command.now.action client.old.asked) }
         ensures unsent { OnErr result (client.new.sent ≡ client.old.sent) }
         ensures fails { IfErr result (Fails command.now.action client.old.sent) }
     {
@@ -188,6 +193,7 @@ impl<'a, 'r, S: Opened<AnyDevice>> Job<'a, 'r, S> {
         ensures number { client.new.number ≡ client.old.number }
         ensures noted { FillsSlots client.old.got (slots_of slots.old) client.new.got (slots_of slots.new) }
         ensures sent { OnOk result (client.new.sent ≡ sends_excp client.old.number excp.now client.old.sent) }
+        ensures asked { client.new.asked ≡ client.old.asked }
         ensures unsent { OnErr result (client.new.sent ≡ client.old.sent) }
         ensures fails { IfErr result (ExcpFails excp.now client.old.sent) }
     {
@@ -211,6 +217,7 @@ impl<'a, 'r, S: Opened<AnyDevice>> Job<'a, 'r, S> {
         ensures number { client.new.number ≡ client.old.number }
         ensures noted { FillsSlots client.old.got (slots_of slots.old) client.new.got (slots_of slots.new) }
         ensures sent { client.new.sent ≡ client.old.sent }
+        ensures asked { client.new.asked ≡ client.old.asked }
     {
         if client.awaited() < MOST_UNDER_WAY {
             return Ok(None);
@@ -233,6 +240,7 @@ impl<'a, 'r, S: Opened<AnyDevice>> Job<'a, 'r, S> {
         ensures number { client.new.number ≡ client.old.number }
         ensures noted { FillsSlots client.old.got (slots_of slots.old) client.new.got (slots_of slots.new) }
         ensures sent { OnOk result (client.new.sent ≡ sends_one request client.old.sent) }
+        ensures asked { client.new.asked ≡ client.old.asked }
         ensures unsent { OnErr result (client.new.sent ≡ client.old.sent) }
     {
         let unit = request.unit();
@@ -267,6 +275,7 @@ impl<'a, 'r, S: Opened<AnyDevice>> Job<'a, 'r, S> {
         ensures number { client.new.number ≡ client.old.number }
         ensures noted { FillsSlots client.old.got (slots_of slots.old) client.new.got (slots_of slots.new) }
         ensures sent { client.new.sent ≡ client.old.sent }
+        ensures asked { client.new.asked ≡ client.old.asked }
         ensures awaits_none { OnOk result (awaited_count client.new ≡ 0) }
     {
         for _ in rt.forever() {
@@ -290,6 +299,7 @@ impl<'a, 'r, S: Opened<AnyDevice>> Job<'a, 'r, S> {
         ensures number { client.new.number ≡ client.old.number }
         ensures noted { FillsSlots client.old.got (slots_of slots.old) client.new.got (slots_of slots.new) }
         ensures sent { client.new.sent ≡ client.old.sent }
+        ensures asked { client.new.asked ≡ client.old.asked }
         ensures awaits_none { IfOk result (λ next. IfNone next (awaited_count client.new ≡ 0)) }
     {
         let Some(posted) = client.next_of(rt, self.alarm, posts)? else {

@@ -5,6 +5,7 @@ ghost use Rattle.job_mount.specs.Requests.{CanBeDone};
 ghost use Rattle.job_script.specs.Reading.{ReadsAtMost};
 ghost use Rattle.job_script.specs.Views.{said};
 ghost use Rattle.job_run.specs.Beginning.{AreBegunWith};
+ghost use Rattle.job_run.specs.Controls.{AreControlledAs};
 ghost use Rattle.job_run.specs.Ending.{EndsBeside, EndsBy, EndsParsed, EndsWriting, IsLate, IsOfTask, IsRunOf, PrintsPosts};
 ghost use Rattle.job_run.specs.Filling.{AllListed, EndedBy, filled_at, listed_from};
 ghost use Rattle.job_run.specs.Printing.{ended_slots, script_text, tasks_text};
@@ -41,7 +42,8 @@ pub struct Finished<N> {
 }
 
 /// Reads a script, at most 1,048,576 bytes and one more. Runs its tasks beside these numbers of channel workers and
-/// interruption handlers, and writes the posts of its requests.
+/// interruption handlers, and writes the posts of its requests. The purges, closes and resets of each unit's trace are those
+/// of the script's commands, each task's in order, but for those that made no entry.
 ///
 /// Errors: the first fault of the script; out of memory, also if no thread can be made for a worker (never `NoThread`); a
 /// failed write, after a first part of the text. It writes only after the run, so every other error leaves the writer as it was.
@@ -90,7 +92,9 @@ pub fn read_and_run<R: Threads + Wait + Sync, N: Notes + Send + Sync, I: Read>(
 
 /// Runs a script that was parsed, to its end. `given` may have for a unit, by its number, a mounted device, for instance
 /// one from an image. A unit without one is mounted as its lines say. The books of the run have for each unit the device as it was
-/// mounted, and the device as the run left it. They continue the books of the script. [`write`] prints the run.
+/// mounted, and the device as the run left it. They continue the books of the script. The purges, closes and resets of each
+/// unit's trace are those of the script's commands, each task's in order, but for those that made no entry. [`write`]
+/// prints the run.
 ///
 /// Errors: those of `books` of job_mount, and then those of `run_on`.
 pub fn run_parsed<R: Threads + Wait + Sync, N: Notes + Send + Sync>(
@@ -131,6 +135,7 @@ pub fn run_on<R: Threads + Wait + Sync, N: Notes + Send + Sync>(
     requires requests { All CanBeDone script.now.commands.items }
     ensures ran { IfOk result (λ finished. Ran (said script.now) finished.report.books) }
     ensures began { IfOk result (λ finished. AreBegun books.items finished.report.books) }
+    ensures controlled { IfOk result (λ finished. AreControlledAs (said script.now) books.items finished.report.books) }
     ensures text { IfOk result (λ finished. tasks_text 0 (map ended_slots finished.tasks.items) ≡ script_text (said script.now) finished.report.books) }
     ensures fault { IfErr result (IsLate (said script.now)) }
 {

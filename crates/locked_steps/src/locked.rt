@@ -1,6 +1,6 @@
 //! Units under locks and real rows, used by one thread.
 
-ghost use Rattle.std.specs.Prelude.{◌≡◌, IfSome};
+ghost use Rattle.std.specs.Prelude.{◌≡◌, IfSome, true};
 ghost use Rattle.std.specs.Option.{option_copied};
 ghost use Rattle.excp_system.specs.Drained.{ArePlaced};
 ghost use Rattle.job_mount.specs.Requests.{CanIssue};
@@ -27,6 +27,7 @@ pub struct Locked<'a, 'r, S: Opened<AnyDevice>, R: Wait> {
     pub system: System<'r, S, AnyDevice>,
     pub tasks: Vec<Task<'r, S>>,
     ghost units_are: { units ≡ S.rows.units },
+    ghost own: { S.own_calls ≡ true },
     ghost placed: { ArePlaced (λ task. task.number) S.rows.tasks tasks.items },
 }
 
@@ -124,7 +125,9 @@ fn make_at<S: Opened<AnyDevice>, R: Wait>(
     unit: &mut UnitState<'_, S, AnyDevice>,
     step: Step,
     opening: Option<&Opening>,
-) -> Result<StepAnswer, AllocError> {
+) -> Result<StepAnswer, AllocError>
+    requires { S.own_calls ≡ true }
+{
     match step {
         Step::Take(_) => Ok(StepAnswer::Taken(unit.take(rt)?)),
         Step::Start(_) => Ok(StepAnswer::Started(unit.start()?)),

@@ -1,6 +1,6 @@
 //! The events of a scenario.
 
-ghost use Rattle.std.specs.Prelude.{◌≡◌, ◌≤◌, All, vec_len};
+ghost use Rattle.std.specs.Prelude.{◌≡◌, ◌≤◌, All, true, vec_len};
 ghost use Rattle.job_mount.specs.Books.{IsFresh};
 ghost use Rattle.excp_system.specs.Opening.{AreFresh, site_of};
 
@@ -62,6 +62,7 @@ fn on_site<S: Opened<AnyDevice>, R: Wait, I: Read + Drop, W: Write, E: Write>(
     requires books { All IsFresh books.items }
     requires opened { S.opened ≡ books.items }
     requires count { vec_len books ≡ S.rows.units }
+    requires own { S.own_calls ≡ true }
 {
     let units = books.len();
     let (system, tasks, _) = System::<S, AnyDevice>::new(alloc, rows, books)?;

@@ -1,5 +1,5 @@
 -- What the joined rows tell of a report.
-use Rattle.std.proofs.Common.{◌≡◌, ◌<◌, ◌==◌, ℕ, List, [], ◌++◌, map, Some, sym, ap, ◌∙◌, subst}
+use Rattle.std.proofs.Common.{Bool, ◌≡◌, ◌<◌, ◌==◌, ℕ, List, [], ◌++◌, map, Some, sym, ap, ◌∙◌, subst}
 use Rattle.std.specs.Prelude.{slice_get}
 use Rattle.std.specs.List.{All}
 use Rattle.std.proofs.lemmas.List.{append-nil}
@@ -57,10 +57,11 @@ module _ {D : Type 0} (meaning : Meaning D) (units : List (Locked D)) (tasks : L
       (λ v of. Each-weaker (λ (r : Piece). (r.name.task < s.tasks) × (r.unit ≡ v.unit)) (λ (r : Piece). task_of r < s.tasks)
       (λ r is. is.0) (arrivals v.book.trace) of) all))
 
-  pub controls : AreControlled units tasks → Controls report tasks
-  controls controlled u b e =
+  pub controls : (own_calls : Bool) (opened : List (Book D)) → AreControlled own_calls opened units tasks →
+      Controls own_calls opened report tasks
+  controls own_calls opened controlled u b e =
       let v = unit_at u b e in
-      subst (λ (x : Book D). ControlledBy u x.trace tasks) (sym v.2) (controlled u v.0 v.1)
+      subst (λ (x : Book D). ControlledBy own_calls opened u x.trace tasks) (sym v.2) (controlled u v.0 v.1)
 
   module _ (settled : AreSettled meaning units tasks) where
     pub received : Received report tasks

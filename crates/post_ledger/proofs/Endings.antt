@@ -1,5 +1,5 @@
 -- What a report of units and tasks that have gone on tells of them as they were.
-use Rattle.std.proofs.Common.{◌≡◌, ◌<◌, ℕ, List, ◌++◌, length, map, Some, sym, ap, ◌∙◌, subst, arith, append_assoc}
+use Rattle.std.proofs.Common.{◌≡◌, ◌<◌, ℕ, Bool, List, ◌++◌, length, map, Some, sym, ap, ◌∙◌, subst, arith, append_assoc}
 use Rattle.std.specs.Prelude.{slice_get}
 use Rattle.std.proofs.lemmas.List.{length-map}
 use Rattle.std.proofs.lemmas.Option.{slice_get_within}
@@ -10,6 +10,7 @@ use Rattle.unit_book.specs.Lists.{Each}
 use Rattle.unit_book.specs.WorldLaws.{posts_of}
 use Rattle.fifo_row.specs.Lists.{of}
 use Rattle.fifo_row.proofs.Filters.{of-append}
+use Rattle.signed_list.specs.Signed.{signed_by}
 use Rattle.excp_system.specs.Controls.{asked_of}
 use Rattle.excp_system.specs.Sites.{unit_of}
 use Rattle.excp_system.specs.States.{Locked, TaskState, sent_by}
@@ -28,14 +29,17 @@ module _ {D : Type 0} (units : ℕ) (first tasks : List TaskState) (before after
   pub received_first : Received report tasks → Received report first
   received_first r u t b w e e' = let v = later t w e' in r u t b v.0 e v.1 ∙ ap (λ (x : TaskState). sent_by x u) v.2.task
 
-  pub controls_first : Controls report tasks → Controls report first
-  controls_first r u b e =
+  pub controls_first : (own_calls : Bool) (opened : List (Book D)) → Controls own_calls opened report tasks → Controls own_calls opened report first
+  controls_first own_calls opened r u b e =
       let known = r u b e in
       record {
+        first = known.first;
+        is = known.is;
         asked = known.asked;
         controlled = known.controlled;
-        by_tasks = λ t w e'. let v = later t w e' in known.by_tasks t v.0 v.1 ∙ ap (λ (x : TaskState). asked_of x.asked u) v.2.task;
+        of_tasks = λ t w e'. let v = later t w e' in known.of_tasks t v.0 v.1 ∙ ap (λ (x : TaskState). asked_of x.asked u) v.2.task;
         no_other = λ k lt. known.no_other k (omega (arith, lt, c.count));
+        no_own = λ alone. ap (λ n. signed_by n known.asked) (sym c.count) ∙ known.no_own alone;
       }
 
   pub posted_first : PostedOnce report tasks → PostedOnce report first

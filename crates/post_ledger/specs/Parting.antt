@@ -1,5 +1,5 @@
 -- UNITS AND TASKS AND THEIR ENDS OF THE ROWS (profile).
-use Rattle.std.specs.Prelude.{◌≡◌, ◌<◌, ℕ, List, [], length, ◌++◌, Some, slice_get}
+use Rattle.std.specs.Prelude.{◌≡◌, ◌<◌, ℕ, Bool, false, List, [], length, ◌++◌, Some, slice_get}
 use Rattle.device_port.specs.Meaning.{Meaning}
 use Rattle.request_piece.specs.PostedState.{PostedState}
 use Rattle.request_piece.specs.declared.piece.Piece.{Piece}
@@ -38,16 +38,21 @@ abbrev pub hand_of : TaskState → PensState
 hand_of w = record { number = w.number; asked = w.asked }
 
 -- a unit's log
-abbrev pub IsLogOf : {D : Type 0} → SiteRows → Locked D → LogState → Type 0
-IsLogOf s v l = KeepsLog s v.unit l v.book.trace
+abbrev pub IsLogOf : {D : Type 0} → SiteRows → Bool → List (Book D) → Locked D → LogState → Type 0
+IsLogOf s own_calls opened v l = KeepsLog s own_calls opened v.unit l v.book.trace
 
--- WHOSE THE CONTROLS OF A TRACE are, at a unit: those of each of the tasks that it asked of the unit, in order, and else
--- those of the unit's own calls, under the number after those of the tasks
-pub record ControlledBy (unit : ℕ) (H : List Entry) (tasks : List TaskState) : Type 0 where
+-- WHOSE THE CONTROLS OF A TRACE are, at a unit, since the trace of the book that was handed in for it. Each task's are what
+-- the task asked of the unit, in order. All others are of the unit's own calls, under the number after those of the tasks.
+-- If these calls may not be used, there are no others
+pub record ControlledBy {D : Type 0} (own_calls : Bool) (opened : List (Book D)) (unit : ℕ) (H : List Entry) (tasks : List TaskState) :
+    Type 0 where
+  pub first : Book D
+  pub is : slice_get opened unit ≡ Some first
   pub asked : List (ℕ × Control)
-  pub controlled : Controlled (items_of asked) H
-  pub by_tasks : (t : ℕ) (w : TaskState) → slice_get tasks t ≡ Some w → signed_by t asked ≡ asked_of w.asked unit
+  pub controlled : Controlled own_calls first.trace (items_of asked) H
+  pub of_tasks : (t : ℕ) (w : TaskState) → slice_get tasks t ≡ Some w → signed_by t asked ≡ asked_of w.asked unit
   pub no_other : (k : ℕ) → length tasks < k → signed_by k asked ≡ []
+  pub no_own : own_calls ≡ false → signed_by (length tasks) asked ≡ []
 
 -- one value of another list for each
 pub record Paired {A B : Type 0} (P : A → B → Type 0) (xs : List A) (ys : List B) : Type 0 where
@@ -73,5 +78,6 @@ module _ {D : Type 0} (meaning : Meaning D) where
       (of task_of t (arrivals v.book.trace) ≡ sent_by w u) × (of unit_of u w.got ≡ of for_task t (given meaning v.book))
 
 -- of each unit: whose its controls are
-abbrev pub AreControlled : {D : Type 0} → List (Locked D) → List TaskState → Type 0
-AreControlled {D} units tasks = (u : ℕ) (v : Locked D) → slice_get units u ≡ Some v → ControlledBy u v.book.trace tasks
+abbrev pub AreControlled : {D : Type 0} → Bool → List (Book D) → List (Locked D) → List TaskState → Type 0
+AreControlled {D} own_calls opened units tasks =
+    (u : ℕ) (v : Locked D) → slice_get units u ≡ Some v → ControlledBy own_calls opened u v.book.trace tasks

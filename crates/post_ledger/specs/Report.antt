@@ -1,6 +1,6 @@
 -- WHAT A REPORT TELLS of a run that was brought to its end (profile). In what follows u is the number of a unit
 -- with the book b in the report, and t that of a task w.
-use Rattle.std.specs.Prelude.{◌≡◌, ◌<◌, ℕ, List, length, ◌++◌, Some, slice_get}
+use Rattle.std.specs.Prelude.{◌≡◌, ◌<◌, ℕ, Bool, List, length, ◌++◌, Some, slice_get}
 use Rattle.std.specs.List.{All}
 use Rattle.device_port.specs.Meaning.{Meaning}
 use Rattle.request_piece.specs.PostedState.{PostedState}
@@ -61,9 +61,11 @@ module _ {D : Type 0} (meaning : Meaning D) where
       OfEach (λ u t b w. (before : List PostedState) → of unit_of u w.got ≡ before ++ list_of (lists_of lists t) u →
       before ++ list_at report t u ≡ of for_task t (posted meaning b.mounted b.trace)) report tasks
 
--- CONTROLLED: the purges, closes and resets of a unit are those that the tasks asked of it, and those of its own calls
-abbrev pub Controls : {D : Type 0} → ReportState D → List TaskState → Type 0
-Controls {D} report tasks = (u : ℕ) (b : Book D) → slice_get report.books u ≡ Some b → ControlledBy u b.trace tasks
+-- CONTROLLED: the purges, closes and resets of a unit since its first book are those that the tasks asked of it, and those
+-- of its own calls, if these may be used, but for those that made no entry
+abbrev pub Controls : {D : Type 0} → Bool → List (Book D) → ReportState D → List TaskState → Type 0
+Controls {D} own_calls opened report tasks =
+    (u : ℕ) (b : Book D) → slice_get report.books u ≡ Some b → ControlledBy own_calls opened u b.trace tasks
 
 -- what arrived at each unit is of tasks below this number
 abbrev pub AreOfTasks : {D : Type 0} → ℕ → ReportState D → Type 0

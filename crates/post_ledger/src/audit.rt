@@ -11,7 +11,7 @@ fn audit_unit<S: Site>(unit: usize, mut log: Log<'_, S>, hands: &mut Vec<Pens<'_
     requires log { log.register ≡ S.rows.register unit }
     requires hands { (t : ℕ) (p : PensState) → slice_get hands.old.items t ≡ Some p → (p.number ≡ t) × (unit < length p.asked) }
     ensures hands { hands.new.items ≡ hands.old.items }
-    ensures audited { IsAudited S.rows.tasks unit log.entry hands.old.items }
+    ensures audited { IsAudited S.own_calls S.rows.tasks unit log.entry hands.old.items }
 {
     log.holds();
     for task in 0..hands.len() {
@@ -23,7 +23,7 @@ fn audit_unit<S: Site>(unit: usize, mut log: Log<'_, S>, hands: &mut Vec<Pens<'_
 pub(crate) fn audit_all<S: Site>(logs: Vec<Log<'_, S>>, hands: &mut Vec<Pens<'_, S>>)
     requires logs { (unit : ℕ) (l : LogState) → slice_get logs.items unit ≡ Some l → l.register ≡ S.rows.register unit }
     requires hands { (t : ℕ) (p : PensState) → slice_get hands.old.items t ≡ Some p → (p.number ≡ t) × (length p.asked ≡ length logs.items) }
-    ensures { AllAudited S.rows.tasks logs.entry.items hands.old.items }
+    ensures { AllAudited S.own_calls S.rows.tasks logs.entry.items hands.old.items }
 {
     let mut unit = 0;
     for log in logs {

@@ -88,7 +88,7 @@ fn split_units<'r, S: Opened<D>, D: Device>(
     ensures books { result.books.items ≡ map book_of units.entry.items }
     ensures intakes { result.intakes.items ≡ map (intake_end S.rows) units.entry.items }
     ensures backs { Paired (IsBack D.meaning S.rows) units.entry.items result.backs.items }
-    ensures logs { Paired (IsLogOf S.rows) units.entry.items result.logs.items }
+    ensures logs { Paired (IsLogOf S.rows S.own_calls S.opened) units.entry.items result.logs.items }
     ensures sound { All (λ unit. BookKeeps D.meaning unit.book) units.entry.items }
     ensures began { All (λ unit. Began S.opened unit.unit unit.book) units.entry.items }
     ensures of_unit { All (λ unit. AreOf S.rows unit.unit (arrivals unit.book.trace)) units.entry.items }
@@ -158,7 +158,7 @@ pub(crate) fn join_all<'r, S: Opened<D>, D: Device>(
     ensures began { All (λ unit. Began S.opened unit.unit unit.book) units.entry.items }
     ensures of_unit { All (λ unit. AreOf S.rows unit.unit (arrivals unit.book.trace)) units.entry.items }
     ensures settled { AreSettled D.meaning units.entry.items tasks.entry.items }
-    ensures controlled { AreControlled units.entry.items tasks.entry.items }
+    ensures controlled { AreControlled S.own_calls S.opened units.entry.items tasks.entry.items }
 {
     let Room {
         books,

@@ -123,7 +123,7 @@ impl<'r, S: Opened<D>, D: Device> Unfinished<'r, S, D> {
         ensures idle { IfOk result (λ report. AreIdle report) }
         ensures of_tasks { IfOk result (λ report. AreOfTasks S.rows.tasks report) }
         ensures received { IfOk result (λ report. Received report self.entry.tasks) }
-        ensures controlled { IfOk result (λ report. Controls report self.entry.tasks) }
+        ensures controlled { IfOk result (λ report. Controls S.own_calls S.opened report self.entry.tasks) }
         ensures posted_once { IfOk result (λ report. PostedOnce report self.entry.tasks) }
         ensures returned { IfOk result (λ report. ReturnedRest D.meaning self.entry.lists report self.entry.tasks) }
         ensures grew { IfOk result (λ report. GrewInto self.entry.units report.books) }
@@ -164,9 +164,9 @@ impl<'r, S: Opened<D>, D: Device> Unfinished<'r, S, D> {
 ///   same, and its trace has only grown.
 /// - The trace is legal, nothing waits and nothing is active.
 /// - What arrived of each task is what `excp` accepted of it there, in order. No other request arrived.
-/// - The purges, closes and resets of its trace are those that the tasks asked of it, each task's in order, and those of
-///   the unit's own calls. A close or a reset of a DCB that was not open, and a purge of one that was never opened, made no
-///   entry.
+/// - The purges, closes and resets of its trace since that book are those that the tasks asked of it, each task's in order,
+///   and those of the unit's own calls, if these may be used. A close or a reset of a DCB that was not open, and a purge
+///   of one that was never opened, made no entry.
 /// - Each of these requests has just one post.
 /// - What the task had collected of the unit, and then its list in the report, is what the unit posted for it, in
 ///   order, each value as its trace gives it.
@@ -187,7 +187,7 @@ pub fn finish<'r, S: Opened<D>, D: Device, R: Wait>(
     ensures idle { IfOk result (λ report. AreIdle report) }
     ensures of_tasks { IfOk result (λ report. AreOfTasks S.rows.tasks report) }
     ensures received { IfOk result (λ report. Received report tasks.entry.items) }
-    ensures controlled { IfOk result (λ report. Controls report tasks.entry.items) }
+    ensures controlled { IfOk result (λ report. Controls S.own_calls S.opened report tasks.entry.items) }
     ensures posted_once { IfOk result (λ report. PostedOnce report tasks.entry.items) }
     ensures returned { IfOk result (λ report. Returned D.meaning report tasks.entry.items) }
     ensures collects { IfErr result (λ left. CollectsAll S.rows.units tasks.entry.items left.tasks [] left.lists) }
@@ -220,7 +220,7 @@ fn go_on<'r, S: Opened<D>, D: Device, R: Wait>(
     ensures idle { IfOk result (λ report. AreIdle report) }
     ensures of_tasks { IfOk result (λ report. AreOfTasks S.rows.tasks report) }
     ensures received { IfOk result (λ report. Received report tasks.entry.items) }
-    ensures controlled { IfOk result (λ report. Controls report tasks.entry.items) }
+    ensures controlled { IfOk result (λ report. Controls S.own_calls S.opened report tasks.entry.items) }
     ensures posted_once { IfOk result (λ report. PostedOnce report tasks.entry.items) }
     ensures returned { IfOk result (λ report. ReturnedRest D.meaning posts.items report tasks.entry.items) }
     ensures grew { IfOk result (λ report. GrewInto (Some units.entry.items) report.books) }
@@ -292,7 +292,7 @@ fn close<'r, S: Opened<D>, D: Device>(
     ensures idle { AreIdle result }
     ensures of_tasks { AreOfTasks S.rows.tasks result }
     ensures received { Received result tasks.entry.items }
-    ensures controlled { Controls result tasks.entry.items }
+    ensures controlled { Controls S.own_calls S.opened result tasks.entry.items }
     ensures posted_once { PostedOnce result tasks.entry.items }
     ensures returned { ReturnedRest D.meaning posts.items result tasks.entry.items }
 {

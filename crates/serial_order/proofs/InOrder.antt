@@ -19,11 +19,12 @@ use Rattle.unit_book.proofs.Dooms.{due-doomed}
 use Rattle.serial_order.specs.OneAtATime.{Rest, without_start, is_turned_away, serve, rest_after, serve_all, after_all, fresh_rest}
 use Rattle.serial_order.specs.Laws.{ServesInOrder, IsUncontrolled, openings, opens_before, value_of}
 use Rattle.serial_order.proofs.Uncontrolled.{Uncontrolled, Tells, Told, tells-own, tells-before, each-front, each-all}
-use Rattle.serial_order.proofs.Uncontrolled.{not-covered, not-halted}
+use Rattle.serial_order.proofs.Uncontrolled.{not-covered, not-halted, halts-nothing}
 use Rattle.serial_order.proofs.Agrees.{Later, Was, Is, Will, Agrees}
 use Rattle.serial_order.proofs.Turns.{each-both, that_wait, away-next, serve-away}
 use Rattle.serial_order.proofs.Quiet.{agrees-opened, agrees-arrive, agrees-ran}
 use Rattle.serial_order.proofs.Starting.{agrees-first, agrees-again}
+use Rattle.serial_order.proofs.Purged.{follows-error}
 use Rattle.serial_order.proofs.Posting.{Dooms, agrees-ends, agrees-fails, agrees-doomed}
 use Rattle.unit_book.proofs.Names.{not, list_all, ◌==◌, extents_of}
 use Rattle.std.proofs.lemmas.Grind.{common_steps}
@@ -202,6 +203,7 @@ serves-in-order {D} meaning = record {
       value-posted meaning mounted (openings H) H (fresh_rest meaning mounted (openings H)) (arrivals H) at r h d (agrees mounted H p);
   values = λ mounted H p i. (both mounted H p i).0;
   same_device = λ mounted H p i. (both mounted H p i).1;
+  purged = λ mounted O rs at r v e e' code opened. follows-error meaning mounted O rs at r v e e' code opened;
   determined = λ mounted G H p q i j o a. (
     (both mounted G p i).0 ∙ ap (λ os. map Some (serve_all meaning mounted os (fresh_rest meaning mounted os) (arrivals G))) o
         ∙ ap (λ rs. map Some (serve_all meaning mounted (openings H) (fresh_rest meaning mounted (openings H)) rs)) a
@@ -213,7 +215,7 @@ serves-in-order {D} meaning = record {
 } where
   agrees : (mounted : D) (H : List Entry) → IsUncontrolled meaning mounted H →
       Agrees meaning mounted (openings H) H (fresh_rest meaning mounted (openings H)) (arrivals H)
-  agrees mounted H p = in-order meaning mounted (openings H) H p.legal p.uncontrolled p.opened (each-all (tells-own H) (arrivals H))
+  agrees mounted H p = in-order meaning mounted (openings H) H p.legal (halts-nothing meaning mounted H p.legal p.uncontrolled) p.opened (each-all (tells-own H) (arrivals H))
 
   both : (mounted : D) (H : List Entry) → IsUncontrolled meaning mounted H → IsIdle H →
       (map (λ r. value_of r.name (posted meaning mounted H)) (arrivals H)

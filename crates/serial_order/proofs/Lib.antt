@@ -7,5 +7,6 @@ pub mod Turns
 pub mod Quiet
 pub mod Starting
 pub mod Posting
+pub mod Purged
 pub mod InOrder
 mod Worked

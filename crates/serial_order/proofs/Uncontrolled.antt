@@ -3,19 +3,24 @@ use Rattle.unit_book.proofs.Names.{◌≡◌, ℕ, Bool, true, false, not, ◌&&
 use Rattle.unit_book.proofs.Names.{list_any, list_all, Name, Piece, is_opened, is_closed, is_halted, is_covered}
 use Rattle.unit_book.proofs.Names.{extents_of, mask_of, is_doomed, flag}
 use Rattle.unit_book.specs.declared.entry.Entry.{Entry}
-use Rattle.unit_book.specs.declared.entry.Entry.TheVariants.{Opened}
+use Rattle.unit_book.specs.declared.entry.Entry.TheVariants.{Opened, Arrive, Start, Ran, Halted, Purge, Close, Reset, Post}
 use Rattle.unit_book.specs.Trace.{since, closes, is_purged, opens_for_input, purges, purges_halting, halts, starts, arrives}
 use Rattle.serial_order.specs.Laws.{is_controlling, openings}
-use Rattle.unit_book.proofs.Names.{Each, Extent, and_parts, ◌++◌}
+use Rattle.unit_book.proofs.Names.{Each, Extent, and_parts, ◌++◌, sym, Meaning, Legal, Due, ToHalt, ToPost, Free, due, FitsBy, is_to_halt}
 use Rattle.unit_book.specs.declared.dcb.ProcessingMethod.{ProcessingMethod}
-use Rattle.unit_book.proofs.Facts.{Known, not-true}
+use Rattle.unit_book.proofs.Facts.{Known, due-halt, not-true}
 use Rattle.std.proofs.lemmas.Grind.{common_steps}
 
+-- the entry is a control, or the halt that a purge makes
+abbrev pub is_control_or_halt : Entry → Bool
+is_control_or_halt (Halted n) = true
+is_control_or_halt e = is_controlling e
+
 abbrev pub Uncontrolled : List Entry → Type 0
-Uncontrolled H = list_all (λ e. not (is_controlling e)) H ≡ true
+Uncontrolled H = list_all (λ e. not (is_control_or_halt e)) H ≡ true
 
 -- no entry is of a kind that only controls have
-none-of : (p : Entry → Bool) → ((e : Entry) → p e ≡ true → is_controlling e ≡ true) → (H : List Entry) → Uncontrolled H →
+none-of : (p : Entry → Bool) → ((e : Entry) → p e ≡ true → is_control_or_halt e ≡ true) → (H : List Entry) → Uncontrolled H →
     list_any p H ≡ false
 none-of p h [] u = refl
 none-of p h (e ∷ H) u = grind (arith, common_steps, none-of p h H, h e)
@@ -24,16 +29,16 @@ none-since : (p q : Entry → Bool) (H : List Entry) → list_any p H ≡ false 
 none-since p q [] h = refl
 none-since p q (e ∷ H) h = grind (arith, common_steps, none-since p q H)
 
-control-closes : (d : ℕ) (e : Entry) → closes d e ≡ true → is_controlling e ≡ true
+control-closes : (d : ℕ) (e : Entry) → closes d e ≡ true → is_control_or_halt e ≡ true
 control-closes d v1 h = grind (arith, common_steps)
 
-control-purges : (r : Piece) (e : Entry) → purges r e ≡ true → is_controlling e ≡ true
+control-purges : (r : Piece) (e : Entry) → purges r e ≡ true → is_control_or_halt e ≡ true
 control-purges r v1 h = grind (arith, common_steps)
 
-control-halting : (r : Piece) (e : Entry) → purges_halting r e ≡ true → is_controlling e ≡ true
+control-halting : (r : Piece) (e : Entry) → purges_halting r e ≡ true → is_control_or_halt e ≡ true
 control-halting r v1 h = grind (arith, common_steps)
 
-control-halts : (n : Name) (e : Entry) → halts n e ≡ true → is_controlling e ≡ true
+control-halts : (n : Name) (e : Entry) → halts n e ≡ true → is_control_or_halt e ≡ true
 control-halts n v1 h = grind (arith, common_steps)
 
 pub not-closed : (d : ℕ) (H : List Entry) → Uncontrolled H → is_closed d H ≡ false
@@ -106,3 +111,28 @@ each-front P (r ∷ rs) qs e = (e.0, each-front P rs qs e.1)
 pub each-all : {P : Piece → Type 0} → ((r : Piece) → P r) → (rs : List Piece) → Each P rs
 each-all f [] = tt
 each-all f (r ∷ rs) = (f r, each-all f rs)
+
+-- A LEGAL TRACE WITHOUT CONTROLS HALTS NOTHING
+to-halt : {D : Type 0} (meaning : Meaning D) (mounted : D) (H : List Entry) (m : Name) → is_to_halt meaning mounted H m ≡ true →
+    list_all (λ e. not (is_controlling e)) H ≡ true → ⊥
+to-halt meaning mounted H m h u = grind (arith, common_steps)
+
+module _ {D : Type 0} (meaning : Meaning D) (mounted : D) where
+  halts-none : (n : Name) (H : List Entry) (d : Due) → d ≡ due meaning mounted H → FitsBy meaning mounted d (Halted n) H →
+      list_all (λ e. not (is_controlling e)) H ≡ true → ⊥
+  halts-none n H (ToHalt m) is fits u = to-halt meaning mounted H m (due-halt meaning mounted H m (sym is)).1 u
+  halts-none n H (ToPost m) is fits u = absurd cc
+  halts-none n H Free is fits u = elim fits [ ]
+
+  pub halts-nothing : (H : List Entry) → Legal meaning mounted H → list_all (λ e. not (is_controlling e)) H ≡ true → Uncontrolled H
+  unfolding Legal
+  halts-nothing [] l u = refl
+  halts-nothing (Halted n ∷ H) l u = elim (halts-none n H (due meaning mounted H) refl l.0 u) [ ]
+  halts-nothing (Opened d m x ∷ H) l u = halts-nothing H l.1 u
+  halts-nothing (Arrive r ∷ H) l u = halts-nothing H l.1 u
+  halts-nothing (Start n ∷ H) l u = halts-nothing H l.1 u
+  halts-nothing (Ran n j ∷ H) l u = halts-nothing H l.1 u
+  halts-nothing (Post n csw sense code ∷ H) l u = halts-nothing H l.1 u
+  halts-nothing (Purge scope mode ∷ H) l u = absurd cc
+  halts-nothing (Close d ∷ H) l u = absurd cc
+  halts-nothing (Reset d ∷ H) l u = absurd cc

@@ -74,6 +74,8 @@ impl<'r, I> Model for SignedList<'r, I> {
 
 impl<I> Register<I> {
     /// A register for this many pens.
+    ///
+    /// Error: out of memory.
     pub fn new(alloc: Global, pens: u16) -> Result<Register<I>, AllocError>
         ensures { IfOk result (λ r. (r.pens ≡ pens) × (r.seated ≡ false)) }
     {
@@ -87,6 +89,8 @@ impl<I> Register<I> {
     }
 
     /// Its pens, in order of number, and its list. They can be made once.
+    ///
+    /// Error: out of memory. The register then makes none any more.
     pub fn ends(&mut self) -> Result<(Vec<Pen<'_, I>>, SignedList<'_, I>), AllocError>
         requires { self.old.seated ≡ false }
         ensures { IfOk result (λ ends. RegisterEnds ends.0.items ends.1 self.old) }

@@ -3,7 +3,7 @@
 ghost use Rattle.std.specs.Prelude.{◌≡◌, ◌<◌, ◌≤◌, ◌-◌, ◌^◌, length, IfErr, IfNone, IfOk, IfSome, OnErr, OnOk};
 ghost use Rattle.std.specs.Arc.{arc_value};
 ghost use Rattle.request_piece.specs.Requests.{request_of};
-ghost use Rattle.excp_system.specs.Controls.{ControlRefused, ControlsBook};
+ghost use Rattle.excp_system.specs.Controls.{ControlLacks, ControlRefused, ControlsBook};
 ghost use Rattle.excp_system.specs.Notices.{Notifies, became_pending};
 ghost use Rattle.excp_system.specs.Calls.{Asks, TaskCollects, IntakeWasFull, Issues, PostRowWasEmpty, next_name};
 ghost use Rattle.excp_system.specs.States.{awaited_count, sent_by};
@@ -92,6 +92,15 @@ impl<'r, S: Site> Client<'r, S> {
         self.task.number()
     }
 
+    /// What holds of a client at any time, by [`Task::holds`] of its task: units have 16-bit numbers, and it has a list of
+    /// controls for each.
+    pub fn holds(&self)
+        ensures few_units { S.rows.units < 2 ^ 16 }
+        ensures asked { length self.now.asked ≡ S.rows.units }
+    {
+        self.task.holds();
+    }
+
     /// How many posts it awaits: the count of the requests that it sent, less that of the posted values that it collected.
     pub fn awaited(&self) -> usize
         ensures { result ≡ awaited_count self.now }
@@ -111,7 +120,7 @@ impl<'r, S: Site> Client<'r, S> {
 
     /// Asks a control of a unit whose lock is held, as [`Task::control`].
     ///
-    /// Errors: those of the book, which change nothing. Unless memory ran out, the control was asked.
+    /// Errors: those of the book, which leave the unit as it was. Unless memory ran out, the control was asked.
     pub fn control<D: Device, R: Wait>(
         &mut self,
         rt: &R,
@@ -123,6 +132,7 @@ impl<'r, S: Site> Client<'r, S> {
         ensures asked { Asks result self.old unit.old.unit control self.new }
         ensures ok { IfOk result (λ answer. ControlsBook D.meaning unit.old.book control answer unit.new.book) }
         ensures refused { IfErr result (ControlRefused unit.old.book control) }
+        ensures full { IfErr result (λ e. e ≡ DcbError.NoMemory → ControlLacks unit.old.book control) }
         ensures err { OnErr result (unit.new ≡ unit.old) }
         ensures notice { Notifies S.rows (became_pending D.meaning unit.old.book unit.new.book) unit.old unit.new }
     {

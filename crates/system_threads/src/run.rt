@@ -1,11 +1,11 @@
 //! A run: the tasks of a system, each on a thread of its own, beside its workers.
 
-ghost use Rattle.std.specs.Prelude.{◌≡◌, ◌<◌, All, IfErr, IfOk, is_some, length, map, true};
+ghost use Rattle.std.specs.Prelude.{◌≡◌, ◌<◌, All, IfErr, IfOk, false, is_some, length, map, true};
 ghost use Rattle.excp_system.specs.Begun.{AreBegun};
 ghost use Rattle.excp_system.specs.Drained.{ArePlaced};
 ghost use Rattle.excp_system.specs.Opening.{AreBooks, AreFresh, AreTasks, site_of};
 ghost use Rattle.post_ledger.specs.Parting.{Paired};
-ghost use Rattle.post_ledger.specs.Report.{AreIdle, AreLegal, AreOfTasks, IsFor, PostedOnce, Received, Returned};
+ghost use Rattle.post_ledger.specs.Report.{AreIdle, AreLegal, AreOfTasks, Controls, IsFor, PostedOnce, Received, Returned};
 ghost use Rattle.system_threads.specs.Running.{Accounts, AreRun, HasRun};
 
 use crate::alarm::Alarm;
@@ -28,8 +28,9 @@ const MOST_TASKS: usize = 64;
 
 /// Runs the tasks of a system of these rows and books by a program, beside these workers, and brings the run to its
 /// end. Returns the report of the run, which holds all posts that the tasks have not collected. With it, in order of
-/// tasks, it returns what each has left behind. The report accounts for what these tasks did. Each of its books
-/// continues the one that was handed in for its unit, on the same device as it was mounted.
+/// tasks, it returns what each has left behind. The report accounts for what these tasks did. The purges, closes and
+/// resets of each unit are those that the tasks asked of it, but for those that made no entry. Each of its books continues
+/// the one that was handed in for its unit, on the same device as it was mounted.
 ///
 /// A worker that runs out of memory tries the call again at its next turn, and nothing is lost. If the same call on a
 /// unit runs out of memory in [`LASTING_TURNS`](crate::LASTING_TURNS) turns in a row, the tasks are woken, and their
@@ -60,7 +61,7 @@ pub fn run_program<D: Device + Send + Sync, P: TaskProgram<D>, R: Threads + Wait
     ensures idle { IfOk result (λ done. AreIdle done.0) }
     ensures of_tasks { IfOk result (λ done. AreOfTasks rows.tasks done.0) }
     ensures outcomes { IfOk result (λ done. length done.1.items ≡ rows.tasks) }
-    ensures accounts { IfOk result (λ done. Accounts D.meaning (P.runs program.now) rows.units rows.tasks done.0 done.1.items) }
+    ensures accounts { IfOk result (λ done. Accounts D.meaning (P.runs program.now) rows.units rows.tasks books.items done.0 done.1.items) }
 {
     run_at::<Brand, D, P, R>(rt, alloc, &mut rows, books, workers, program)
 }
@@ -83,6 +84,7 @@ fn run_at<
     requires fresh { AreFresh rows.old }
     requires books { AreBooks S.rows.units books.items }
     requires opened { S.opened ≡ books.items }
+    requires sealed { S.own_calls ≡ false }
     requires units { S.rows.units ≡ P.units program.now }
     ensures report { IfOk result (λ done. IsFor S.rows.units S.rows.tasks done.0) }
     ensures began { IfOk result (λ done. AreBegun S.opened done.0.books) }
@@ -90,7 +92,7 @@ fn run_at<
     ensures idle { IfOk result (λ done. AreIdle done.0) }
     ensures of_tasks { IfOk result (λ done. AreOfTasks S.rows.tasks done.0) }
     ensures outcomes { IfOk result (λ done. length done.1.items ≡ S.rows.tasks) }
-    ensures accounts { IfOk result (λ done. Accounts D.meaning (P.runs program.now) S.rows.units S.rows.tasks done.0 done.1.items) }
+    ensures accounts { IfOk result (λ done. Accounts D.meaning (P.runs program.now) S.rows.units S.rows.tasks S.opened done.0 done.1.items) }
 {
     let units = rows.units();
     let used = subclasses_of(books.as_slice());
@@ -171,6 +173,7 @@ fn brought_to_end<'r, S: Opened<D>, D: Device, R: Wait>(
     ensures idle { IfOk result (λ report. AreIdle report) }
     ensures of_tasks { IfOk result (λ report. AreOfTasks S.rows.tasks report) }
     ensures received { IfOk result (λ report. Received report tasks.entry.items) }
+    ensures controlled { IfOk result (λ report. Controls S.own_calls S.opened report tasks.entry.items) }
     ensures posted_once { IfOk result (λ report. PostedOnce report tasks.entry.items) }
     ensures returned { IfOk result (λ report. Returned D.meaning report tasks.entry.items) }
 {

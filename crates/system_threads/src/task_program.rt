@@ -24,12 +24,13 @@ pub trait TaskProgram<D: Device>: Sync {
     // the number of units that it is written for
     ghost units: { Self → ℕ };
 
-    // what a task does: what it has sent and collected before and after its run, and what it leaves behind
+    // what a task does: what it has sent, asked and collected before and after its run, and what it leaves behind
     ghost runs: { Self → TaskState → TaskState → Self.Outcome → Type 0 };
 
-    /// Runs a task to its end. By the client it issues requests and collects their posts. By the system it may purge,
-    /// close and reset. If it delivers a post there, or finds a post row full, it has to tell the alarm, or the post's task
-    /// sleeps on. The number of the client says which task it is.
+    /// Runs a task to its end. By the client it issues requests and collects their posts. It purges, closes and resets by
+    /// [`Client::control`], of a unit whose lock it has from the system. If it delivers a post under that lock, or finds a
+    /// post row full, it has to report this to the alarm, or the post's task sleeps on. The number of the client says which
+    /// task it is.
     fn run<S: Opened<D>, R: Wait>(
         &self,
         rt: &R,

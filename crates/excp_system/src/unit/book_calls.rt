@@ -8,7 +8,7 @@ ghost use Rattle.unit_book.specs.Dcbs.{is_open, is_opened};
 ghost use Rattle.unit_book.specs.Refusals.{CloseLacks, InterruptLacks, PurgeLacks, ResetLacks, RunLacks, SettleLacks, StartLacks};
 ghost use Rattle.unit_book.specs.Settle.{AddsService, Settles};
 ghost use Rattle.unit_book.specs.Trace.{active, waiting};
-ghost use Rattle.excp_system.specs.Controls.{ControlRefused, ControlsBook, asks, is_asked};
+ghost use Rattle.excp_system.specs.Controls.{ControlLacks, ControlRefused, ControlsBook, asks, is_asked};
 ghost use Rattle.excp_system.specs.Notices.{InBook, Notifies, OwesIf, became_pending, leaves_pending};
 
 use crate::control::{Control, Controlling};
@@ -50,6 +50,7 @@ fn control_book<D: Device>(
 ) -> Result<Controlling, DcbError>
     ensures ok { IfOk result (λ answer. ControlsBook D.meaning book.old control answer book.new) }
     ensures refused { IfErr result (ControlRefused book.old control) }
+    ensures full { IfErr result (λ e. e ≡ DcbError.NoMemory → ControlLacks book.old control) }
     ensures err { OnErr result (book.new ≡ book.old) }
 {
     match control {
@@ -71,6 +72,7 @@ impl<'r, S: Opened<D>, D: Device> UnitState<'r, S, D> {
     ///
     /// Errors: those of the book. Only the room for entries may have grown then.
     pub fn open(&mut self, method: ProcessingMethod, extents: &[Extent]) -> Result<u16, OpenError>
+        requires { S.own_calls ≡ true }
         ensures ok { IfOk result (λ dcb. OpensBook D.meaning self.old.book dcb method extents.now self.new.book) }
         ensures refused { IfErr result (OpenRefused D.meaning self.old.book extents.now) }
         ensures err { OnErr result (self.new.book ≡ record self.old.book { spare = self.new.book.spare }) }
@@ -130,6 +132,7 @@ impl<'r, S: Opened<D>, D: Device> UnitState<'r, S, D> {
     ///
     /// Errors: those of the book, which change nothing.
     pub fn purge<R: Wait>(&mut self, rt: &R, dcb: u16, mode: Mode) -> Result<Purging, DcbError>
+        requires { S.own_calls ≡ true }
         ensures opened { OnOk result (is_opened dcb self.old.book.trace ≡ true) }
         ensures ok { IfOk result (λ answer. PurgesBook D.meaning self.old.book (Scope.Dcb dcb) mode answer self.new.book) }
         ensures refused { IfErr result (DcbRefused self.old.book dcb) }
@@ -155,6 +158,7 @@ impl<'r, S: Opened<D>, D: Device> UnitState<'r, S, D> {
         task: u16,
         mode: Mode,
     ) -> Result<Purging, AllocError>
+        requires { S.own_calls ≡ true }
         ensures ok { IfOk result (λ answer. PurgesBook D.meaning self.old.book (Scope.Task task) mode answer self.new.book) }
         ensures full { OnErr result (PurgeLacks self.old.book) }
         ensures err { OnErr result (self.new ≡ self.old) }
@@ -174,6 +178,7 @@ impl<'r, S: Opened<D>, D: Device> UnitState<'r, S, D> {
     ///
     /// Errors: those of the book, which change nothing.
     pub fn close(&mut self, dcb: u16) -> Result<Closing, DcbError>
+        requires { S.own_calls ≡ true }
         ensures ok { IfOk result (λ answer. ClosesBook D.meaning self.old.book dcb answer self.new.book) }
         ensures refused { IfErr result (DcbRefused self.old.book dcb) }
         ensures full { IfErr result (λ e. e ≡ DcbError.NoMemory → CloseLacks self.old.book dcb) }
@@ -190,6 +195,7 @@ impl<'r, S: Opened<D>, D: Device> UnitState<'r, S, D> {
     ///
     /// Errors: those of the book, which change nothing.
     pub fn reset(&mut self, dcb: u16) -> Result<(), DcbError>
+        requires { S.own_calls ≡ true }
         ensures ok { OnOk result (Adds self.old.book (Entry.Reset dcb) self.new.book) }
         ensures opened { OnOk result (is_open dcb self.old.book.trace ≡ true) }
         ensures refused { IfErr result (ResetRefused self.old.book dcb) }
@@ -214,6 +220,7 @@ impl<'r, S: Opened<D>, D: Device> UnitState<'r, S, D> {
         ensures asked { pens.new ≡ record pens.old { asked = asks (is_asked result) self.old.unit control pens.old.asked } }
         ensures ok { IfOk result (λ answer. ControlsBook D.meaning self.old.book control answer self.new.book) }
         ensures refused { IfErr result (ControlRefused self.old.book control) }
+        ensures full { IfErr result (λ e. e ≡ DcbError.NoMemory → ControlLacks self.old.book control) }
         ensures err { OnErr result (self.new ≡ self.old) }
         ensures notice { Notifies S.rows (became_pending D.meaning self.old.book self.new.book) self.old self.new }
     {

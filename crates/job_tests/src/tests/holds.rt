@@ -1,7 +1,7 @@
 //! Steps of a unit and a task, one by one through the unit's lock, each done once more if there is no memory for it.
 //! Scenarios have all other steps (tests/cases/scenarios).
 
-ghost use Rattle.std.specs.Prelude.{◌≡◌, ◌<◌};
+ghost use Rattle.std.specs.Prelude.{◌≡◌, ◌<◌, true};
 ghost use Rattle.excp_system.specs.Opening.{AreBooks, AreFresh, site_of};
 ghost use Rattle.job_mount.specs.Books.{IsFresh};
 
@@ -189,7 +189,9 @@ fn issue<S: Site, R: Wait>(
 }
 
 /// Resets DCB 2 until the trace has room for `room` entries.
-fn fill<S: Opened<AnyDevice>>(unit: &mut UnitState<'_, S, AnyDevice>, room: usize) -> Option<()> {
+fn fill<S: Opened<AnyDevice>>(unit: &mut UnitState<'_, S, AnyDevice>, room: usize) -> Option<()>
+    requires { S.own_calls ≡ true }
+{
     for _ in room..unit.book().spare() {
         unit.reset(2).ok()?;
     }
@@ -201,7 +203,9 @@ fn tried<S: Opened<AnyDevice>, R: Wait>(
     rt: &R,
     unit: &mut UnitState<'_, S, AnyDevice>,
     step: Step,
-) -> Option<()> {
+) -> Option<()>
+    requires { S.own_calls ≡ true }
+{
     match step {
         Take => unit.take(rt).ok().map(|_| ()),
         Start => unit.start().ok().map(|_| ()),
@@ -228,7 +232,8 @@ fn done<'r, S: Opened<AnyDevice>, R: Wait + AllocGlobal>(
     task: &mut Task<'r, S>,
     step: Step,
 ) -> Result<Option<Post>, Fail>
-    requires { 0 < S.rows.units }
+    requires own { S.own_calls ≡ true }
+    requires units { 0 < S.rows.units }
 {
     match step {
         Collect => {
@@ -262,6 +267,7 @@ fn posts<S: Opened<AnyDevice>, R: Wait + AllocGlobal>(
     requires books { AreBooks S.rows.units books.items }
     requires opened { S.opened ≡ books.items }
     requires one { S.rows.units ≡ 1 }
+    requires own { S.own_calls ≡ true }
 {
     let (system, mut tasks, _) = System::<S, AnyDevice>::new(rt.alloc(), rows, books)?;
     let task = tasks.first_mut().ok_or(AllocError)?;

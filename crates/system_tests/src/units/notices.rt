@@ -1,6 +1,6 @@
 //! A program that a purge halts, and the handler that gets the notice of it.
 
-ghost use Rattle.std.specs.Prelude.{◌≡◌};
+ghost use Rattle.std.specs.Prelude.{◌≡◌, true};
 ghost use Rattle.excp_system.specs.Opening.{AreBooks, AreFresh, site_of};
 
 use super::*;
@@ -15,7 +15,8 @@ fn halt_first<S: Opened<Disk>, R: Wait + Abort + AllocGlobal>(
     system: &System<'_, S, Disk>,
     task: &mut Task<'_, S>,
 ) -> Result<(), Fail>
-    requires { S.rows.units ≡ 2 }
+    requires two { S.rows.units ≡ 2 }
+    requires own { S.own_calls ≡ true }
 {
     let name = issue(rt, rt.alloc(), task, 0)?;
     let mut unit = system.lock_of(0).lock(rt);
@@ -56,6 +57,7 @@ fn steps<S: Opened<Disk> + Send + Sync, R: Threads + Wait + Sync + Abort + Alloc
     requires books { AreBooks S.rows.units books.items }
     requires opened { S.opened ≡ books.items }
     requires two { S.rows.units ≡ 2 }
+    requires own { S.own_calls ≡ true }
 {
     let (system, mut tasks, handlers) = System::<S, Disk>::new(rt.alloc(), rows, books)?;
     let task = tasks.first_mut().ok_or("no task")?;

@@ -1,7 +1,7 @@
 //! A purge of a task that has a request on each of two units: what it answers, what the traces tell of it, and how the
 //! requests end. Scenarios have all that a purge meets (tests/cases/scenarios).
 
-ghost use Rattle.std.specs.Prelude.{◌≡◌, ◌<◌};
+ghost use Rattle.std.specs.Prelude.{◌≡◌, ◌<◌, true};
 ghost use Rattle.excp_system.specs.Opening.{AreBooks, AreFresh, site_of};
 
 use super::*;
@@ -75,6 +75,7 @@ fn steps<S: Opened<Disk>, R: Wait + Abort + AllocGlobal>(
     requires books { AreBooks S.rows.units books.items }
     requires opened { S.opened ≡ books.items }
     requires two { S.rows.units ≡ 2 }
+    requires own { S.own_calls ≡ true }
 {
     let (system, mut tasks, _) = System::<S, Disk>::new(rt.alloc(), rows, books)?;
     let task = tasks.first_mut().ok_or("no task")?;

@@ -1,6 +1,6 @@
 //! Workers that run out of memory, and a gate that hears of it.
 
-ghost use Rattle.std.specs.Prelude.{◌≡◌, ◌<◌};
+ghost use Rattle.std.specs.Prelude.{◌≡◌, ◌<◌, true};
 ghost use Rattle.excp_system.specs.Opening.{AreBooks, AreFresh, site_of};
 
 use super::*;
@@ -93,7 +93,8 @@ fn open_more<S: Opened<Disk>, R: Wait>(
     system: &System<'_, S, Disk>,
     more: u16,
 ) -> Result<(), OpenError>
-    requires { 0 < S.rows.units }
+    requires units { 0 < S.rows.units }
+    requires own { S.own_calls ≡ true }
 {
     for _ in 0..more {
         let extents = [Extent::read(&TRACK)];
@@ -152,7 +153,8 @@ fn expect_served<'r, S: Opened<Disk>, R: Wait + Abort + AllocGlobal>(
     tasks: &mut [Task<'r, S>],
     case: &Case,
 ) -> Result<(), Fail>
-    requires { 0 < S.rows.units }
+    requires units { 0 < S.rows.units }
+    requires own { S.own_calls ≡ true }
 {
     let (more, meets, ends, in_turn) = *case;
     let task = tasks.first_mut().ok_or("no task")?;
@@ -175,6 +177,7 @@ fn steps<S: Opened<Disk>, R: Wait + Abort + AllocGlobal>(
     requires books { AreBooks S.rows.units books.items }
     requires opened { S.opened ≡ books.items }
     requires two { S.rows.units ≡ 2 }
+    requires own { S.own_calls ≡ true }
 {
     let (system, mut tasks, mut handlers) = System::<S, Disk>::new(rt.alloc(), rows, books)?;
     expect_served(

@@ -26,7 +26,7 @@ new-requires g c =
     let r = c.in-Some.register.now in
     let is = c.requires.registers k r (drop_get k c.args.registers.now.items c.next.new.self.s.now r (sym i.rest ∙ c.in-Some.ensures.steps)) in
     is_log s c.args.tasks k r is.0 is.1 c.in_ok-pens.pens.items c.pop.new.self.items c.in_ok-pens.list c.in_ok-pens.ensures
-    c.in-Some-pop.own c.in-Some-pop.ensures.items c.requires.tasks
+    c.in-Some-pop.own c.in-Some-pop.ensures.items g.S.Site.own_calls c.requires.tasks
 
 pub loop-register-preserved : goal.loop-register-preserved
 loop-register-preserved g c =

@@ -73,8 +73,8 @@ new-unit-requires-clause-log g c =
     (sym i.logs ∙ steps.1.1.0) in
     let number : c.number.result ≡ u =
     c.number.ensures ∙ ap (λ (f : FanState _). f.number) (c.args.ends.back_are.each u c.in-Some.back back_at) in
-    log_begins g.S.Site.rows u c.number.result c.in-Some.log b number (c.args.ends.logs_are.each u c.in-Some.log log_at)
-    (c.requires.books.opened u b book_at)
+    log_begins g.S.Site.rows g.S.Site.own_calls g.S.Opened.opened u c.number.result c.in-Some.log b number (c.args.ends.logs_are.each u c.in-Some.log log_at)
+    ((λ j. slice_get (c.requires.opened j) (number j)) ∙ book_at)
 
 pub push_reserved-requires : goal.push_reserved-requires
 push_reserved-requires g c =

@@ -23,7 +23,7 @@ returns-in_err-rows-clause-fault g c =
 pub returns-clause-began : goal.returns-clause-began
 returns-clause-began g c =
     begun_with c.run_on.result c.args.given.items (said c.args.script.now) (room_of_a_unit c.args.script.now) c.in_ok-rows.books
-    c.in_ok-rows.ensures.exact c.run_on.ensures.began
+    c.in_ok-rows.ensures.exact c.run_on.ensures.began c.run_on.ensures.controlled
 
 pub returns-clause-fault : goal.returns-clause-fault
 returns-clause-fault g c =

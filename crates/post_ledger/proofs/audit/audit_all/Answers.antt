@@ -22,17 +22,18 @@ loop-log-preserved g c =
     let log = c.in-Some.log in
     let yielded = c.loop-log.yielded in
     let rest = into_iter_items c.next.new.self in
+    let alone = g.S.Site.own_calls in
     let tasks = g.S.Site.rows.tasks in
     let hands = c.args.hands.now.items in
     let all : c.args.logs.items ≡ yielded ++ log ∷ rest = first_of (search rules, grind (arith, common_steps)) in
-    let here : IsAudited tasks (length yielded) log hands =
-    subst (λ (q : ℕ × List PensState). IsAudited tasks q.0 log q.1) (λ j. (i.turn j, i.hands j)) c.audit_unit.ensures.audited in
+    let here : IsAudited alone tasks (length yielded) log hands =
+    subst (λ (q : ℕ × List PensState). IsAudited alone tasks q.0 log q.1) (λ j. (i.turn j, i.hands j)) c.audit_unit.ensures.audited in
     record {
       all = all ∙ sym (append_assoc yielded (log ∷ []) rest);
       turn = omega (arith, i.turn, length-append yielded (log ∷ []));
       hands = c.audit_unit.ensures.hands ∙ i.hands;
       audited = λ unit l e. ⊎_elim (λ old. i.audited unit l old)
-          (λ (t : (unit ≡ length yielded) × (log ≡ l)). subst (λ (q : ℕ × LogState). IsAudited tasks q.0 q.1 hands)
+          (λ (t : (unit ≡ length yielded) × (log ≡ l)). subst (λ (q : ℕ × LogState). IsAudited alone tasks q.0 q.1 hands)
           (λ j. (sym t.0 j, t.1 j)) here)
           (get_snoc yielded log l unit e);
     }

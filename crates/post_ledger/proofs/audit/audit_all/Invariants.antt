@@ -8,5 +8,5 @@ invariant-loop-log g l = record {
   all : l.fn.logs.items ≡ l.yielded ++ into_iter_items l.log-iterator;
   turn : l.unit ≡ length l.yielded;
   hands : l.hands.items ≡ l.fn.hands.items;
-  audited : AllAudited g.S.Site.rows.tasks l.yielded l.fn.hands.items;
+  audited : AllAudited g.S.Site.own_calls g.S.Site.rows.tasks l.yielded l.fn.hands.items;
 }

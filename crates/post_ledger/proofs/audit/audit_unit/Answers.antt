@@ -34,7 +34,7 @@ pub returns-clause-audited : goal.returns-clause-audited
 returns-clause-audited g c =
     let i = c.loop-task.invariant in
     record {
-      by_tasks = λ t p e. i.audited t p (omega (
+      of_tasks = λ t p e. i.audited t p (omega (
         arith,
         c.loop-task-test.false,
         c.len-task-end.ensures,
@@ -42,4 +42,5 @@ returns-clause-audited g c =
         slice_get_within c.args.hands.now.items t p e,
       )) e;
       no_other = c.holds.ensures.no_other;
+      no_own = c.holds.ensures.no_own;
     }

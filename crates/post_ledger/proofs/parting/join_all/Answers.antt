@@ -45,16 +45,16 @@ returns-clause-settled g c =
 
 pub audit_all-requires-clause-logs : goal.audit_all-requires-clause-logs
 audit_all-requires-clause-logs g c =
-    log_registers g.S.Site.rows c.args.units.items c.split_units-books.result.logs.items c.requires.units c.split_units-books.ensures.logs
+    log_registers g.S.Site.rows g.S.Site.own_calls g.S.Opened.opened c.args.units.items c.split_units-books.result.logs.items c.requires.units c.split_units-books.ensures.logs
 
 pub audit_all-requires-clause-hands : goal.audit_all-requires-clause-hands
 audit_all-requires-clause-hands g c =
-    hands_are g.S.Site.rows c.args.units.items c.args.tasks.items c.split_units-books.result.logs.items
+    hands_are g.S.Site.rows g.S.Site.own_calls g.S.Opened.opened c.args.units.items c.args.tasks.items c.split_units-books.result.logs.items
     c.split_tasks-outs.result.hands.items c.requires.units c.requires.tasks c.split_units-books.ensures.logs
     c.split_tasks-outs.ensures.hands c.split_tasks-outs.ensures.pens
 
 pub returns-clause-controlled : goal.returns-clause-controlled
 returns-clause-controlled g c =
-    controlled_by g.S.Site.rows c.args.units.items c.args.tasks.items c.split_units-books.result.logs.items
-    c.split_tasks-outs.result.hands.items c.requires.tasks c.split_units-books.ensures.logs c.split_tasks-outs.ensures.hands
-    c.audit_all.ensures
+    controlled_by g.S.Site.rows g.S.Site.own_calls g.S.Opened.opened c.args.units.items c.args.tasks.items c.split_units-books.result.logs.items
+    c.split_tasks-outs.result.hands.items c.requires.units c.requires.tasks c.split_units-books.ensures.logs
+    c.split_tasks-outs.ensures.hands c.audit_all.ensures

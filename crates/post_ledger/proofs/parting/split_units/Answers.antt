@@ -30,8 +30,8 @@ loop-unit-preserved g c =
           (sym c.push_reserved-in-loop-unit-2.ensures.items)
           (paired_snoc (IsBack g.D.Device.meaning s) c.loop-unit.yielded c.loop-unit.backs.items v c.into_parts-book.result.2 i.backs
           (record { number_is = e.ends.back_is; count = e.ends.count; sent = e.ends.sent }));
-      logs = subst (Paired (IsLogOf s) (c.loop-unit.yielded ++ v ∷ [])) (sym c.push_reserved-in-loop-unit-3.ensures.items)
-          (paired_snoc (IsLogOf s) c.loop-unit.yielded c.loop-unit.logs.items v c.into_parts-book.result.4 i.logs e.log);
+      logs = subst (Paired (IsLogOf s g.S.Site.own_calls g.S.Opened.opened) (c.loop-unit.yielded ++ v ∷ [])) (sym c.push_reserved-in-loop-unit-3.ensures.items)
+          (paired_snoc (IsLogOf s g.S.Site.own_calls g.S.Opened.opened) c.loop-unit.yielded c.loop-unit.logs.items v c.into_parts-book.result.4 i.logs e.log);
       sound = All-push (λ (u : Locked _). BookKeeps g.D.Device.meaning u.book) c.loop-unit.yielded v i.sound
           (record { legal = c.holds.ensures.legal; given = c.holds.ensures.given });
       began = All-push (λ (u : Locked _). Began g.S.Opened.opened u.unit u.book) c.loop-unit.yielded v i.began c.holds.ensures.began;
@@ -50,7 +50,7 @@ loop-unit-init g c = record {
   books = c.requires.books.0;
   intakes = c.requires.intakes.0;
   backs = paired_none (IsBack g.D.Device.meaning g.S.Site.rows) c.args.parts.backs.items c.requires.backs.0;
-  logs = paired_none (IsLogOf g.S.Site.rows) c.args.parts.logs.items c.requires.logs.0;
+  logs = paired_none (IsLogOf g.S.Site.rows g.S.Site.own_calls g.S.Opened.opened) c.args.parts.logs.items c.requires.logs.0;
   room = (c.requires.books.1, c.requires.intakes.1, c.requires.backs.1, c.requires.logs.1);
   sound = λ k d lt. absurd (omega (arith, lt));
   began = λ k d lt. absurd (omega (arith, lt));
@@ -104,7 +104,7 @@ returns-clause-logs g c =
     (omega (arith, c.loop-unit.unit-iterator.rest.ok, c.in-None.ensures.steps.0)) in
     let all : c.args.units.items ≡ c.loop-unit.yielded = c.loop-unit.invariant.all
     ∙ (ap (λ r. c.loop-unit.yielded ++ r) none ∙ append-nil c.loop-unit.yielded) in
-    subst (λ l. Paired (IsLogOf g.S.Site.rows) l c.loop-unit.logs.items) (sym all) c.loop-unit.invariant.logs
+    subst (λ l. Paired (IsLogOf g.S.Site.rows g.S.Site.own_calls g.S.Opened.opened) l c.loop-unit.logs.items) (sym all) c.loop-unit.invariant.logs
 
 pub returns-clause-sound : goal.returns-clause-sound
 returns-clause-sound g c =

@@ -14,7 +14,7 @@ invariant-loop-unit g l = record {
   books : l.books.items ≡ map book_of l.yielded;
   intakes : l.intakes.items ≡ map (intake_end g.S.Site.rows) l.yielded;
   backs : Paired (IsBack g.D.Device.meaning g.S.Site.rows) l.yielded l.backs.items;
-  logs : Paired (IsLogOf g.S.Site.rows) l.yielded l.logs.items;
+  logs : Paired (IsLogOf g.S.Site.rows g.S.Site.own_calls g.S.Opened.opened) l.yielded l.logs.items;
   sound : All (λ (v : Locked _). BookKeeps g.D.Device.meaning v.book) l.yielded;
   began : All (λ (v : Locked _). Began g.S.Opened.opened v.unit v.book) l.yielded;
   of_unit : All (λ (v : Locked _). AreOf g.S.Site.rows v.unit (arrivals v.book.trace)) l.yielded;

@@ -25,7 +25,8 @@ returns-clause-received g c = received g.D.Device.meaning c.args.units.items c.a
 
 pub returns-clause-controlled : goal.returns-clause-controlled
 returns-clause-controlled g c = controls g.D.Device.meaning c.args.units.items c.args.tasks.items c.new.result
-    (ap (λ (r : ReportState _). r.books) c.new.ensures ∙ c.join_all-books.ensures.books) c.join_all-books.ensures.controlled
+    (ap (λ (r : ReportState _). r.books) c.new.ensures ∙ c.join_all-books.ensures.books) g.S.Site.own_calls g.S.Opened.opened
+    c.join_all-books.ensures.controlled
 
 pub returns-clause-posted_once : goal.returns-clause-posted_once
 returns-clause-posted_once g c =

@@ -49,7 +49,7 @@ returns-in-Ok-clause-received g c =
 pub returns-in-Ok-clause-controlled : goal.returns-in-Ok-clause-controlled
 returns-in-Ok-clause-controlled g c =
     controls_first g.S.Site.rows.units c.args.tasks.items c.make_ready.new.tasks.items c.args.posts.items c.make_ready.new.posts.items
-    c.make_ready.ensures.collects c.close.result
+    c.make_ready.ensures.collects c.close.result g.S.Site.own_calls g.S.Opened.opened
     c.close.ensures.controlled
 
 pub returns-in-Ok-clause-posted_once : goal.returns-in-Ok-clause-posted_once

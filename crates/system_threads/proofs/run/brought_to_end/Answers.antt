@@ -1,5 +1,5 @@
 use Rattle.std.proofs.Common.{[]}
-use Rattle.post_ledger.proofs.Endings.{posted_first, received_first}
+use Rattle.post_ledger.proofs.Endings.{controls_first, posted_first, received_first}
 use Rattle.system_threads.proofs.Running.{returned_later}
 use Rattle.system_threads.proofs.run.brought_to_end.Goals as goal
 
@@ -7,6 +7,11 @@ pub returns-in-Ok-resume-clause-received : goal.returns-in-Ok-resume-clause-rece
 returns-in-Ok-resume-clause-received g c =
     received_first g.S.Site.rows.units c.args.tasks.items c.in-Err.left.tasks [] c.in-Err.left.lists c.in-Err.ensures.collects
     c.in-Ok-resume.report c.in-Ok-resume.ensures.received
+
+pub returns-in-Ok-resume-clause-controlled : goal.returns-in-Ok-resume-clause-controlled
+returns-in-Ok-resume-clause-controlled g c =
+    controls_first g.S.Site.rows.units c.args.tasks.items c.in-Err.left.tasks [] c.in-Err.left.lists c.in-Err.ensures.collects
+    c.in-Ok-resume.report g.S.Site.own_calls g.S.Opened.opened c.in-Ok-resume.ensures.controlled
 
 pub returns-in-Ok-resume-clause-posted_once : goal.returns-in-Ok-resume-clause-posted_once
 returns-in-Ok-resume-clause-posted_once g c =

@@ -6,8 +6,8 @@ use Rattle.excp_system.specs.Controls.{PensState, asks}
 use Rattle.excp_system.proofs.Hands.{signs_one}
 use Rattle.excp_system.proofs.pens.Pens.note.Goals as goal
 
-pub returns-then-is_made-clause-pens : goal.returns-then-is_made-clause-pens
-returns-then-is_made-clause-pens g c =
+pub returns-then-is_asked-clause-pens : goal.returns-then-is_asked-clause-pens
+returns-then-is_asked-clause-pens g c =
     let is = c.self.view_is in
     let number = c.self.inside.number in
     let pens = c.self.inside.pens.items in
@@ -21,4 +21,4 @@ returns-then-is_made-clause-pens g c =
           c.index_mut-pen.ensures.value c.sign.new.pen control c.sign.ensures.pen j;
     })
     ∙ ap (λ (v : PensState). record { number = v.number; asked = asks true k control v.asked }) is
-    ∙ ap (λ made. record { number = c.args.self.now.number; asked = asks made k control c.args.self.now.asked }) (sym c.if-is_made.true)
+    ∙ ap (λ made. record { number = c.args.self.now.number; asked = asks made k control c.args.self.now.asked }) (sym c.if-is_asked.true)

@@ -1,7 +1,7 @@
 use Rattle.unit_book.proofs.WorldBooks.{keeps-close}
 use Rattle.excp_system.proofs.Begins.{began_call, continues_closes}
 use Rattle.excp_system.specs.declared.control.Control.TheVariants as control
-use Rattle.excp_system.proofs.Logs.{log_control, close_is, close_refused}
+use Rattle.excp_system.proofs.Logs.{log_control, close_is}
 use Rattle.excp_system.proofs.Units.{unit-call}
 use Rattle.excp_system.proofs.unit.UnitState.close.Goals as goal
 
@@ -16,6 +16,6 @@ invariant_of-self g c =
       began_call c.close-answer.result new c.self.invariant.1 c.close-answer.ensures.ok c.close-answer.ensures.err
           (λ answer h. continues_closes g.D.Device.meaning h),
       log_control g.S.Site.rows.tasks old new (control.Close c.args.dcb) c.self.invariant.2 c.close-answer.result c.close-answer.ensures.ok
-          (close_refused old c.args.dcb c.close-answer.result c.close-answer.ensures.refused c.close-answer.ensures.full) c.close-answer.ensures.err
+          c.close-answer.ensures.refused c.close-answer.ensures.err
           (λ answer h. close_is g.D.Device.meaning old new h) c.is_asked.result c.note.new.self c.is_asked.ensures c.note.ensures,
     )

@@ -1,7 +1,7 @@
 use Rattle.unit_book.proofs.Kept.{either_way}
 use Rattle.unit_book.proofs.WorldBooks.{Sound, keeps-open, keeps-again}
 use Rattle.excp_system.proofs.Begins.{began_then, continues_again, continues_opens}
-use Rattle.excp_system.proofs.Logs.{log_quietly, quietly_again, quietly_opens}
+use Rattle.excp_system.proofs.Logs.{keeps_opens, log_goes, quietly_again}
 use Rattle.excp_system.proofs.Units.{unit-keeps}
 use Rattle.excp_system.proofs.unit.UnitState.open.Goals as goal
 
@@ -18,6 +18,7 @@ invariant_of-self g c =
           (λ same. keeps-again meaning old.awaits sound same)),
       began_then c.self.invariant.1 (either_way c.open.result c.open.ensures.ok c.open.ensures.err
           (λ dcb h. continues_opens meaning h) (λ same. continues_again old.awaits same)),
-      log_quietly c.self.invariant.2 (either_way c.open.result c.open.ensures.ok c.open.ensures.err
-          (λ dcb h. quietly_opens meaning old new h) (λ same. quietly_again old new old.awaits same)),
+      log_goes c.self.invariant.2 (either_way c.open.result c.open.ensures.ok c.open.ensures.err
+          (λ dcb h. keeps_opens meaning g.S.Site.own_calls old new c.requires h)
+          (λ same. quietly_again old new old.awaits same g.S.Site.own_calls)),
     )

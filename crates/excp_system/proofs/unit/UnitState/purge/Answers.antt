@@ -3,7 +3,7 @@ use Rattle.unit_book.proofs.Kept.{done_and}
 use Rattle.request_piece.specs.declared.scope.Scope.TheVariants.{Dcb}
 use Rattle.excp_system.proofs.Begins.{began_call, continues_purges}
 use Rattle.excp_system.specs.declared.control.Control.TheVariants as control
-use Rattle.excp_system.proofs.Logs.{log_control, purge_is, purge_refused}
+use Rattle.excp_system.proofs.Logs.{log_control, purge_is}
 use Rattle.excp_system.proofs.Units.{unit-call}
 use Rattle.excp_system.proofs.unit.UnitState.purge.Goals as goal
 
@@ -19,6 +19,6 @@ invariant_of-self g c =
       began_call c.purge-answer.result new c.self.invariant.1 c.purge-answer.ensures.ok c.purge-answer.ensures.err
           (λ answer h. continues_purges g.D.Device.meaning h),
       log_control g.S.Site.rows.tasks old new (control.Purge (Dcb c.args.dcb) c.args.mode) c.self.invariant.2 c.purge-answer.result c.purge-answer.ensures.ok
-          (purge_refused old c.args.dcb c.args.mode c.purge-answer.result c.purge-answer.ensures.refused) c.purge-answer.ensures.err
+          c.purge-answer.ensures.refused c.purge-answer.ensures.err
           (λ answer h. purge_is g.D.Device.meaning old new h) c.is_asked.result c.note.new.self c.is_asked.ensures c.note.ensures,
     )

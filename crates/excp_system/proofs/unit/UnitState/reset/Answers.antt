@@ -4,7 +4,7 @@ use Rattle.unit_book.specs.Answers.{Adds}
 use Rattle.unit_book.specs.declared.entry.Entry.TheVariants.{Reset}
 use Rattle.excp_system.proofs.Begins.{began_call, continues_adds}
 use Rattle.excp_system.specs.declared.control.Control.TheVariants as control
-use Rattle.excp_system.proofs.Logs.{log_control, reset_is, reset_refused}
+use Rattle.excp_system.proofs.Logs.{log_control, reset_is}
 use Rattle.excp_system.proofs.Units.{unit-call}
 use Rattle.excp_system.proofs.unit.UnitState.reset.Goals as goal
 
@@ -20,6 +20,6 @@ invariant_of-self g c =
       began_call c.reset-answer.result {Done = λ _. Adds old (Reset c.args.dcb) new} new c.self.invariant.1 c.reset-answer.ensures.ok
           c.reset-answer.ensures.err (λ _ h. continues_adds (Reset c.args.dcb) h),
       log_control g.S.Site.rows.tasks old new (control.Reset c.args.dcb) c.self.invariant.2 c.reset-answer.result c.reset-answer.ensures.ok
-          (reset_refused old c.args.dcb c.reset-answer.result c.reset-answer.ensures.refused) c.reset-answer.ensures.err
+          c.reset-answer.ensures.refused c.reset-answer.ensures.err
           (λ answer h. reset_is g.D.Device.meaning old new h) c.is_asked.result c.note.new.self c.is_asked.ensures c.note.ensures,
     )

@@ -41,8 +41,8 @@ invariant_of-self-in-Some g c =
           (c.in-Some.ensures.taken ∙ ap (λ (x : Piece). record taker { taken = taker.taken ++ x ∷ [] }) (sym same)),
       began_then c.self.invariant.1 (continues_then (continues_again old.awaits c.in_ok-reserve.ensures.book)
           (continues_dooms meaning (Arrive r) c.arrive_reserved.ensures.book)),
-      log_quietly c.self.invariant.2 (λ asked k. quietly_arrives meaning mid new r c.arrive_reserved.ensures.book asked
-          (quietly_again old mid old.awaits c.in_ok-reserve.ensures.book asked k)),
+      log_quietly (log_quietly c.self.invariant.2 (quietly_again old mid old.awaits c.in_ok-reserve.ensures.book))
+          (quietly_arrives meaning mid new r c.arrive_reserved.ensures.book),
     )
 
 pub invariant_of-self-in-None : goal.invariant_of-self-in-None

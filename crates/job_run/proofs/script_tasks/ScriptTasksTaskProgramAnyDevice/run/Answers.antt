@@ -11,6 +11,6 @@ returns-clause-runs g c =
     subst (λ (s : Script). RunsScript s c.args.client.now c.task.new.client c.task.result) c.new.ensures
     (record {
       does = does_script c.task.result own.commands.items c.args.client.now c.task.new.client c.task.ensures.sent
-          c.task.ensures.awaits_none c.task.ensures.stopped;
+          c.task.ensures.asked c.task.ensures.awaits_none c.task.ensures.stopped;
       fills = fills_own c.task.result own c.args.client.now c.task.new.client c.task.ensures.noted;
     })

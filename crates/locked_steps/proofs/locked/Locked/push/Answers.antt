@@ -13,5 +13,6 @@ invariant_of-self-2 g c =
     let kept = number_kept c.excp.result old c.excp.new.self _ c.excp.ensures.accepted c.excp.ensures.unchanged in
     record {
       units_are = c.args.self.now.units_are;
+      own = c.args.self.now.own;
       placed = placed_set g.S.Site.rows.tasks tasks at old c.excp.new.self within c.index_mut-task.ensures.value kept placed;
     }

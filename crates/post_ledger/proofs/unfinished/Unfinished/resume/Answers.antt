@@ -18,7 +18,8 @@ returns-in-Ok-clause-received g c = subst (λ (l : Left _). IfOk c.go_on-in-Ok.r
     c.go_on-in-Ok.ensures.received
 
 pub returns-in-Ok-clause-controlled : goal.returns-in-Ok-clause-controlled
-returns-in-Ok-clause-controlled g c = subst (λ (l : Left _). IfOk c.go_on-in-Ok.result (λ report. Controls report l.tasks)) c.self.view_is
+returns-in-Ok-clause-controlled g c =
+    subst (λ (l : Left _). IfOk c.go_on-in-Ok.result (λ report. Controls g.S.Site.own_calls g.S.Opened.opened report l.tasks)) c.self.view_is
     c.go_on-in-Ok.ensures.controlled
 
 pub returns-in-Ok-clause-posted_once : goal.returns-in-Ok-clause-posted_once
