@@ -5,7 +5,7 @@ from __future__ import annotations
 import codecs
 import re
 from enum import Enum
-from typing import BinaryIO
+from typing import BinaryIO, Sequence
 
 from ..images.aws import read_items
 from ..images.ckd import PlainDisk
@@ -20,8 +20,8 @@ FIRST_BYTES = 4096
 # What a report of `test` begins with, after the declaration of XML.
 _REPORT = re.compile(b'<testsuites name="excp test"')
 
-# The beginning of a line of posts, which may be the last one that is looked at.
-_POST = re.compile(rb"(post|end) |pos?t?$|po?$|p$|en?d?$")
+# The beginning of a line of posts.
+_POST = re.compile(rb"(post|end) ")
 
 
 class Held(Enum):
@@ -77,7 +77,13 @@ def _text_in(first: bytes) -> Held:
         return Held.OTHER
     if first.startswith(b"<?xml") and _REPORT.search(first):
         return Held.JUNIT
-    return Held.POSTS if all(map(_POST.match, first.splitlines())) else Held.TEXT
+    return Held.POSTS if all(map(_POST.match, _whole_lines(first))) else Held.TEXT
+
+
+def _whole_lines(first: bytes) -> Sequence[bytes]:
+    """The lines of first bytes, but for one that they may cut."""
+    lines = first.splitlines()
+    return lines[:-1] if len(first) == FIRST_BYTES else lines
 
 
 def _is_text(first: bytes) -> bool:
