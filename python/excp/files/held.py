@@ -77,7 +77,8 @@ def _text_in(first: bytes) -> Held:
         return Held.OTHER
     if first.startswith(b"<?xml") and _REPORT.search(first):
         return Held.JUNIT
-    return Held.POSTS if all(map(_POST.match, _whole_lines(first))) else Held.TEXT
+    lines = _whole_lines(first)
+    return Held.POSTS if lines and all(map(_POST.match, lines)) else Held.TEXT
 
 
 def _whole_lines(first: bytes) -> Sequence[bytes]:
