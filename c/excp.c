@@ -37,6 +37,7 @@ uint32_t excp_call_reset(SITE, uint16_t unit, uint16_t dcb);
 uint32_t excp_call_look(SITE, uint16_t unit, excp_unit_state *state);
 uint32_t excp_call_look_dcb(SITE, uint16_t unit, uint16_t dcb, excp_dcb_state *state);
 uint32_t excp_call_waiting(SITE, uint16_t unit, uint32_t place, uint16_t *task, uint64_t *number);
+uint32_t excp_call_look_entry(SITE, uint16_t unit, uint32_t place, excp_trace_entry *entry);
 uint32_t excp_call_read_record(SITE, uint16_t unit, uint16_t cylinder, uint16_t head, uint32_t place, excp_record *record, ROOM(bytes));
 uint32_t excp_call_printed_line(SITE, uint16_t unit, uint32_t place, excp_line *line, ROOM(bytes));
 uint32_t excp_call_make_record(SITE, uint16_t unit, uint64_t most_steps, size_t *length);
@@ -84,7 +85,7 @@ const char *excp_message(excp_status status)
         [EXCP_NO_NUMBER] = "the task used its last number at the unit",
         [EXCP_NO_POST] = "no post was delivered to the task that it has not collected",
         [EXCP_NO_ROOM] = "the buffer is too short, or so many bytes were not made",
-        [EXCP_NOTHING_THERE] = "no request, record or line is at that place",
+        [EXCP_NOTHING_THERE] = "no request, entry, record or line is at that place",
         [EXCP_NOT_IDLE] = "a request is in flight, waits, is active or out, or a post is not collected",
         [EXCP_IN_ERROR] = "a DCB is in error",
     };
@@ -148,6 +149,7 @@ CALL(look, (SITE, uint16_t unit, excp_unit_state *state), site && state, site, u
 CALL(look_dcb, (SITE, uint16_t unit, uint16_t dcb, excp_dcb_state *state), site && state, site, unit, dcb, state)
 CALL(waiting, (SITE, uint16_t unit, uint32_t place, uint16_t *task, uint64_t *number), site && task && number, site, unit, place, task,
      number)
+CALL(look_entry, (SITE, uint16_t unit, uint32_t place, excp_trace_entry *entry), site && entry, site, unit, place, entry)
 CALL(read_record, (SITE, uint16_t unit, uint16_t cylinder, uint16_t head, uint32_t place, excp_record *record, uint8_t *bytes, size_t room),
      site && record && IS_SLICE(bytes, room), site, unit, cylinder, head, place, record, BYTES(bytes, room))
 CALL(printed_line, (SITE, uint16_t unit, uint32_t place, excp_line *line, uint8_t *bytes, size_t room),

@@ -64,7 +64,7 @@ typedef enum excp_status {
     EXCP_NO_NUMBER = 24,     /* the task used its last number at the unit, 4,294,967,295: checkpoint the unit */
     EXCP_NO_POST = 25,       /* no post was delivered to the task that it has not collected */
     EXCP_NO_ROOM = 26,       /* the caller's buffer is too short; excp_copy_out: it is too long */
-    EXCP_NOTHING_THERE = 27, /* no request, record or line is at that place */
+    EXCP_NOTHING_THERE = 27, /* no request, entry, record or line is at that place */
     EXCP_NOT_IDLE = 28,      /* excp_checkpoint: a request is in flight, waits, is active or out, or a post is not collected */
     EXCP_IN_ERROR = 29       /* excp_checkpoint: an open DCB is in error */
 } excp_status;
@@ -271,6 +271,39 @@ excp_status excp_look_dcb(excp_site *site, uint16_t unit, uint16_t dcb, excp_dcb
 
 /* The request that waits at a place, counted from 0 in the order in which they are started. */
 excp_status excp_waiting(excp_site *site, uint16_t unit, uint32_t place, uint16_t *task, uint64_t *number);
+
+/* What happened at a unit, which is an entry of its trace. */
+typedef enum excp_entry_kind {
+    EXCP_ENTRY_OPENED = 0,      /* a DCB was opened; `way` is EXCP_INPUT or EXCP_OUTPUT */
+    EXCP_ENTRY_ARRIVED = 1,     /* a request arrived */
+    EXCP_ENTRY_STARTED = 2,     /* the program of a request was started */
+    EXCP_ENTRY_RAN = 3,         /* `commands` commands of it were done */
+    EXCP_ENTRY_HALTED = 4,      /* it was halted */
+    EXCP_ENTRY_PURGED_DCB = 5,  /* a purge of a DCB; `way` is EXCP_QUIESCE or EXCP_HALT */
+    EXCP_ENTRY_PURGED_TASK = 6, /* a purge of a task; `way` as before */
+    EXCP_ENTRY_CLOSED = 7,      /* a DCB was closed */
+    EXCP_ENTRY_RESET = 8,       /* the error flag of a DCB was cleared */
+    EXCP_ENTRY_POSTED = 9       /* a request was posted with this code, CSW and sense */
+} excp_entry_kind;
+
+/* An entry. What its kind has not is 0. */
+typedef struct excp_trace_entry {
+    uint64_t number;        /* of the request */
+    uint32_t commands;
+    uint32_t address;       /* of the CSW */
+    uint16_t task;          /* of the request, or that is purged */
+    uint16_t dcb;           /* that was opened, purged, closed or reset */
+    uint16_t residual;      /* of the CSW */
+    uint16_t sense;
+    uint8_t kind;           /* an excp_entry_kind */
+    uint8_t way;
+    uint8_t code;           /* the completion code */
+    uint8_t unit_status;    /* of the CSW */
+    uint8_t channel_status; /* of the CSW */
+} excp_trace_entry;
+
+/* The entry at a place of the trace of a unit, counted from 0, the oldest first. The first is at place 0 again after a checkpoint. */
+excp_status excp_look_entry(excp_site *site, uint16_t unit, uint32_t place, excp_trace_entry *entry);
 
 typedef struct excp_record {
     uint16_t cylinder;   /* CC of its count area */

@@ -21,7 +21,7 @@ COMMAND = re.compile(r"(?:\$ )?(?:\./|tests/|tools/|cd |rt |job=)")
 EXCP = """#!/usr/bin/env bash
 set -o pipefail
 case "$1" in
-    report | step | check | assemble | describe | convert | test) exec {package} "$@" ;;
+    report | step | debug | check | assemble | describe | convert | test) exec {package} "$@" ;;
     outcomes)
         {package} "$@"
         [ $? = 5 ]
@@ -111,7 +111,7 @@ RUN = {
     ("samples/README.md", "./excp assemble samples/read.symbolic > /tmp/read.script"): (ANYTHING, {}),
     ("docs/MANUAL.md", "./excp step halt"): (NEXT, {"halt": "purge 0 0 1 halt"}),
     ("docs/MANUAL.md", "job=samples/outcomes/a-halt.symbolic"): (NEXT, {}),
-    ("docs/MANUAL.md", "./excp job.script | awk"): (NOTHING, {"job.script": "samples/read.script"}),
+    ("docs/MANUAL.md", "./excp debug errors <<'END'"): (AMONG, {"errors": "ID:     CCHHR 0,0,9                ; cylinder 0, head 0, record 9"}),
     ("docs/MANUAL.md", "./excp job"): (ANYTHING, {"job": "LINE: DC  C'HELLO'"}),
     ("docs/MANUAL.md", "./excp report first | awk"): (NOTHING, {"first": "samples/read.symbolic", "rest": "samples/read.script"}),
     ("docs/MANUAL.md", "./excp report --json first"): (ANYTHING, {"first": "samples/read.symbolic"}),

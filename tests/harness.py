@@ -28,6 +28,9 @@ sys.path.insert(0, f"{TOP}/python")
 CASES = f"{TOP}/tests/cases"
 SAMPLES = f"{TOP}/samples"
 
+# The library that carries out scenarios: that of tools/library.py.
+LIBRARY = f"{TOP}/out/library/libexcp.so"
+
 # The most seconds that one run of a program may take.
 SECONDS = 60
 
@@ -140,9 +143,10 @@ def package_main(job, tools):
 
     for word in WORDS.values():
         word.load()
-    for name in "dialog", "page_form", "whole_script":
+    for name in "page_form", "site_files", "stepped", "whole_script":
         importlib.import_module(f"excp.command.{name}")
-    return lambda words: main(words, lambda name: pathlib.Path(job if name == "excp_job" else tools))
+    programs = {"excp_job": job, "excp_tools": tools, "libexcp.so": LIBRARY}
+    return lambda words: main(words, lambda name: pathlib.Path(programs[name]))
 
 
 def run_package(command, programs, words, script="", file="", cwd=None, stdin=None, stdout=None, timeout=SECONDS):

@@ -1,5 +1,5 @@
 #!/usr/bin/env python3
-"""Runs a word of the package python/excp with this program excp_tools, from any folder and with any environment:
+"""Runs a word of the package python/excp with this program excp_tools and the library in out/library, from any folder and with any environment:
 
     tests/package.py PROGRAM WORD ..
 
@@ -24,7 +24,8 @@ def carried_out(tools, words):
         return 130
     beside = f"{os.path.dirname(tools)}/excp_job"
     job = beside if os.path.exists(beside) else f"{TOP}/crates/excp_job/out/excp_job"
-    return main(words, lambda name: pathlib.Path(job if name == "excp_job" else tools))
+    programs = {"excp_job": job, "excp_tools": tools, "libexcp.so": f"{TOP}/out/library/libexcp.so"}
+    return main(words, lambda name: pathlib.Path(programs[name]))
 
 
 if __name__ == "__main__":

@@ -82,7 +82,7 @@ def check(text):
     page = Page(text)
     require(text.startswith("<!DOCTYPE html>\n") and not page.open, "the page is not whole")
     scripts = [named for tag, named in page.elements if tag == "script"]
-    data = [{"type": "application/json", "id": name} for name in ("front", "rest", "job")]
+    data = [{"type": "application/json", "id": name} for name in ("front", "rest", "job", "states")]
     require(scripts == [data[0], {}, *data[1:]], f"the script elements are {scripts}")
     policies = [named["content"] for tag, named in page.elements if tag == "meta" and "http-equiv" in named]
     require(policies == [POLICY.format(digest(page.texts["style"]), digest(page.texts["script"]))], f"the policy is {policies}")
@@ -90,7 +90,7 @@ def check(text):
         require(tag in ELEMENTS, f"there is an element <{tag}>")
         require(set(named) <= {"lang", "charset", "name", "content", "http-equiv", "id", "aria-label", "type", "class", "tabindex"},
                 f"<{tag}> has {named}")
-    require("<" not in page.texts["front"] + page.texts["rest"] + page.texts["job"], "the JSON has a <")
+    require("<" not in page.texts["front"] + page.texts["rest"] + page.texts["job"] + page.texts["states"], "the JSON has a <")
     for words in page.texts["style"], page.texts["script"]:
         require(not re.search(r"https?:(?!//www\.w3\.org/2000/svg\b)|@import|\binnerHTML\b|\beval\b|url\((?!#)", words), "the page names a place")
     return page

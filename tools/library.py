@@ -2,7 +2,7 @@
 """Builds the library for C, libexcp.a and libexcp.so, and copies c/excp.h beside them, into out/library:
 
     tools/library.py               with proved exports
-    tools/library.py --unproved    with nothing proved, in some two minutes of one processor
+    tools/library.py --unproved    with nothing proved, in some two minutes of one processor; with `--quiet` it prints no last line
 
 First it proves crates/excp_c and every crate below it, as `tools/prove.py build` proves the program. It leaves that out if the
 exports were proved of the sources as they are: then it costs a second, also with --unproved. The shared library exports the
@@ -100,6 +100,11 @@ def read(path):
         return file.read()
 
 
+def write(path, text):
+    with open(path, "w", encoding="utf-8") as file:
+        file.write(text)
+
+
 def version():
     """The version of the sources, as its number and the one after the point."""
     return re.search(r'^pub const VERSION: &str = "(\d+)\.(\d+)";$', read(prove.VERSION), re.M).groups()
@@ -125,8 +130,9 @@ def link(cc, folder, exports, is_proved):
     )
 
 
-def keep(folder):
-    """Moves what a folder has into out/library, and makes the links of the shared library."""
+def keep(folder, is_proved):
+    """Moves what a folder has into out/library, and makes the links of the shared library. Two files beside it are for `./excp`: the
+    crates that it was built of, and, if it is proved, one that says so."""
     major, minor = version()
     whole = f"libexcp.so.{major}.{minor}"
     os.makedirs(TO, exist_ok=True)
@@ -135,6 +141,11 @@ def keep(folder):
     shutil.copy(HEADER, folder)
     for name in whole, f"libexcp.so.{major}", "libexcp.so", "libexcp.a", "excp.h":
         os.replace(f"{folder}/{name}", f"{TO}/{name}")
+    write(f"{TO}/libexcp.so.crates", " ".join(prove.crates_below(CRATE)[0]))
+    if is_proved:
+        write(f"{TO}/libexcp.so.proved", "")
+    elif os.path.exists(f"{TO}/libexcp.so.proved"):
+        os.remove(f"{TO}/libexcp.so.proved")
 
 
 def exports_of(is_unproved):
@@ -146,7 +157,7 @@ def exports_of(is_unproved):
 
 
 def main(words):
-    if words not in ([], ["--unproved"]):
+    if words not in ([], ["--unproved"], ["--unproved", "--quiet"]):
         print(__doc__, file=sys.stderr)
         return 2
     try:
@@ -162,9 +173,10 @@ def main(words):
     with tempfile.TemporaryDirectory(dir=f"{TOP}/out") as folder:
         if not link(cc, folder, *found):
             return FAILED
-        keep(folder)
+        keep(folder, found[1])
     state = "proved" if found[1] else "not proved"
-    say(f"the library is in out/library: libexcp.a, libexcp.so and excp.h; it is {state}")
+    if "--quiet" not in words:
+        say(f"the library is in out/library: libexcp.a, libexcp.so and excp.h; it is {state}")
     return 0
 
 

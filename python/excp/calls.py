@@ -5,11 +5,14 @@ from __future__ import annotations
 import ctypes
 import threading
 import weakref
-from typing import Any
+from typing import Any, Iterator
 
 from . import library
 from .library import Handle, call
 from .values import Answer, Kind, Name
+
+# The bytes that are copied at a time.
+_AT_A_TIME = 1 << 20
 
 
 class Calls:
@@ -44,6 +47,15 @@ class Calls:
         made = ctypes.create_string_buffer(length.value)
         self.call("copy_out", 0, made)
         return made.raw
+
+    def made_pieces(self, name: str, unit: int) -> Iterator[bytes]:
+        """The bytes that a call makes of a unit, in pieces."""
+        made = ctypes.c_size_t()
+        self.call(name, unit, made)
+        for start in range(0, made.value, _AT_A_TIME):
+            piece = ctypes.create_string_buffer(min(_AT_A_TIME, made.value - start))
+            self.call("copy_out", start, piece)
+            yield piece.raw
 
     def make(self, name: str, unit: int, *values: Any) -> bytes:
         """The bytes that a call makes of a unit."""

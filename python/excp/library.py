@@ -13,8 +13,9 @@ from ctypes import (
 from typing import Any, Dict, Iterator, List, Tuple
 
 from .errors import BadNumber, LibraryNotFound, Status, error_of
+from .programs.home import LIBRARY
+from .programs.library_choice import PLACE
 
-NAME = "libexcp.so"
 
 
 class Handle(Structure):
@@ -58,6 +59,15 @@ class UnitState(Structure):
 
 class DcbState(Structure):
     _fields_ = [(it, c_uint8) for it in ("state", "in_error", "file_mask")]
+
+
+class Entry(Structure):
+    _fields_ = [
+        ("number", c_uint64),
+        *((it, c_uint32) for it in ("commands", "address")),
+        *((it, c_uint16) for it in ("task", "dcb", "residual", "sense")),
+        *((it, c_uint8) for it in ("kind", "way", "code", "unit_status", "channel_status")),
+    ]
 
 
 class Record(Structure):
@@ -113,6 +123,7 @@ CALLS = {
     "look": "u16 ref",
     "look_dcb": "u16 u16 ref",
     "waiting": "u16 u32 ref ref",
+    "look_entry": "u16 u32 ref",
     "read_record": "u16 u16 u16 u32 ref buffer",
     "printed_line": "u16 u32 ref buffer",
     "make_record": "u16 u64 ref",
@@ -126,12 +137,12 @@ CALLS = {
 def places() -> Iterator[str]:
     """Where the library may be: EXCP_LIBRARY, beside the package, or out/library of the
     repository."""
-    if os.environ.get("EXCP_LIBRARY"):
-        yield os.environ["EXCP_LIBRARY"]
+    if os.environ.get(PLACE):
+        yield os.environ[PLACE]
         return
     package = os.path.dirname(os.path.realpath(__file__))
-    yield os.path.join(package, NAME)
-    yield os.path.join(os.path.dirname(os.path.dirname(package)), "out", "library", NAME)
+    yield os.path.join(package, LIBRARY)
+    yield os.path.join(os.path.dirname(os.path.dirname(package)), "out", "library", LIBRARY)
 
 
 @functools.lru_cache(maxsize=None)

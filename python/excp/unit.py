@@ -7,12 +7,12 @@ import itertools
 from typing import TYPE_CHECKING, Any, Iterator, List, Sequence, Tuple
 
 from . import library
-from .blocks import Extent
+from .blocks import Csw, Extent
 from .errors import ExcpError, Status
 from .reporting.text import unit_history
 from .values import (
-    Active, Answer, DcbPhase, DcbState, Device, Line, Method, Mode, Name, Record, Served, ServedEnd,
-    UnitState,
+    Active, Answer, DcbPhase, DcbState, Device, Entry, EntryKind, Line, Method, Mode, Name, Record,
+    Served, ServedEnd, UnitState,
 )
 
 if TYPE_CHECKING:
@@ -89,11 +89,16 @@ class Unit:
 
     # --- what there is
 
+    def look(self) -> library.UnitState:
+        """The unit as the library shows it (excp_unit_state)."""
+        found = library.UnitState()
+        self._calls.call("look", self.number, found)
+        return found
+
     @property
     def state(self) -> UnitState:
-        found = library.UnitState()
         with self._calls.lock:
-            self._calls.call("look", self.number, found)
+            found = self.look()
             waiting = tuple(self._waiting(place) for place in range(found.waiting))
         active = Name(found.active_task, self.number, found.active_number)
         return UnitState(
@@ -112,6 +117,44 @@ class Unit:
         task, number = ctypes.c_uint16(), ctypes.c_uint64()
         self._calls.call("waiting", self.number, place, task, number)
         return Name(task.value, self.number, number.value)
+
+    @property
+    def is_drained(self) -> bool:
+        """Whether no request is in flight to the unit, waits, is active, or is posted and not
+        delivered."""
+        found = self.look()
+        return not (found.in_flight or found.waiting or found.active or found.out)
+
+    def entries(self, first: int = 0) -> Iterator[Entry]:
+        """The entries of the trace from one on, counted from 0: what happened at the unit since it
+        was mounted, or since its last checkpoint."""
+        found = library.Entry()
+        for place in itertools.count(first):
+            try:
+                self._calls.call("look_entry", self.number, place, found)
+            except ExcpError as error:
+                if error.status == Status.NOTHING_THERE:
+                    return
+                raise
+            yield self._entry(found)
+
+    def _entry(self, found: library.Entry) -> Entry:
+        kind = EntryKind(found.kind)
+        return Entry(
+            kind=kind,
+            name=Name(found.task, self.number, found.number) if kind.names_request else None,
+            commands=found.commands,
+            task=0 if kind.names_request else found.task,
+            dcb=found.dcb,
+            way=found.way,
+            code=found.code,
+            csw=Csw(found.address, found.unit_status, found.channel_status, found.residual),
+            sense=found.sense,
+        )
+
+    def count_entries(self) -> int:
+        """How many entries the trace has."""
+        return sum(1 for _ in self.entries())
 
     def records(self, cylinder: int, head: int) -> List[Record]:
         """The records of a track of a disk, in their order. The first is R0."""
@@ -162,7 +205,12 @@ class Unit:
         """The medium as an image: a disk as CKD_P370, a tape as AWSTAPE, the paper of a printer as
         text in UTF-8 (docs/FORMATS.md). What was not written is as in the image that the unit came
         from. Raises `NoImage`."""
-        return self._calls.make("make_image", self.number)
+        with self._calls.lock:
+            return b"".join(self.image_pieces())
+
+    def image_pieces(self) -> Iterator[bytes]:
+        """The image in pieces. Nothing else may be made until all are taken."""
+        return self._calls.made_pieces("make_image", self.number)
 
 
 class Dcb:

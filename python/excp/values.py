@@ -53,6 +53,30 @@ class ServedEnd(enum.IntEnum):
     COMMANDS = 2
 
 
+class EntryKind(enum.IntEnum):
+    """What happened at a unit (excp_entry_kind)."""
+
+    OPENED = 0
+    ARRIVED = 1
+    STARTED = 2
+    RAN = 3
+    HALTED = 4
+    PURGED_DCB = 5
+    PURGED_TASK = 6
+    CLOSED = 7
+    RESET = 8
+    POSTED = 9
+
+    @property
+    def names_request(self) -> bool:
+        return self in _NAMING_ENTRIES
+
+
+_NAMING_ENTRIES = {
+    EntryKind.ARRIVED, EntryKind.STARTED, EntryKind.RAN, EntryKind.HALTED, EntryKind.POSTED,
+}
+
+
 class Kind(enum.IntEnum):
     """What an event did (excp_answer_kind)."""
 
@@ -158,6 +182,23 @@ class Post:
         csw, status = self.csw, f"{self.csw.unit:02X}{self.csw.sub:02X}"
         ended = f"{csw.address:06X} {status} {csw.residual:04X} {self.sense:04X}"
         return f"post {self.name} {self.code:02X} {ended}"
+
+
+@dataclass(frozen=True)
+class Entry:
+    """An entry of the trace of a unit. What its kind has not is 0, or None: the request; the
+    commands that were done; the task that is purged; the DCB; the Method of an opening, or the Mode
+    of a purge; how the request was posted."""
+
+    kind: EntryKind
+    name: Optional[Name] = None
+    commands: int = 0
+    task: int = 0
+    dcb: int = 0
+    way: int = 0
+    code: int = 0
+    csw: Csw = Csw()
+    sense: int = 0
 
 
 @dataclass(frozen=True)

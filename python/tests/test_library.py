@@ -10,7 +10,7 @@ import unittest
 
 from excp import library
 from excp.errors import Status
-from excp.values import Active, DcbPhase, Device, Kind, Method, Mode, ServedEnd
+from excp.values import Active, DcbPhase, Device, EntryKind, Kind, Method, Mode, ServedEnd
 
 HEADER = os.path.join(os.path.dirname(os.path.realpath(__file__)), "..", "..", "c", "excp.h")
 
@@ -23,6 +23,7 @@ STRUCTURES = {
     "excp_post": library.Post,
     "excp_unit_state": library.UnitState,
     "excp_dcb_state": library.DcbState,
+    "excp_trace_entry": library.Entry,
     "excp_record": library.Record,
     "excp_line": library.Line,
 }
@@ -69,6 +70,7 @@ class Declarations(unittest.TestCase):
         declared.update({"NONE_ACTIVE": Active.NONE, **{it.name: it.value for it in Active if it != Active.NONE}})
         declared.update({f"DCB_{it.name}": it.value for it in DcbPhase})
         declared.update({f"SERVED_{it.name}": it.value for it in ServedEnd})
+        declared.update({f"ENTRY_{it.name}": it.value for it in EntryKind})
         self.assertEqual(found, declared)
 
     @unittest.skipUnless(shutil.which("cc"), "there is no C compiler")

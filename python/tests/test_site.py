@@ -7,8 +7,8 @@ import threading
 import unittest
 
 import excp
-from excp import (TAPE_MARK, Active, Answer, Area, Ccw, Code, DcbPhase, Device, Extent, Fault, Flag, Kind, Line, Method, Mode, Name, Op,
-                  Record, Seek, ServedEnd, Site, Status)
+from excp import (TAPE_MARK, Active, Answer, Area, Ccw, Code, DcbPhase, Device, EntryKind, Extent, Fault, Flag, Kind, Line, Method,
+                  Mode, Name, Op, Record, Seek, ServedEnd, Site, Status)
 
 TRACK = [Extent.between((0, 0), (0, 0), 1)]
 
@@ -34,6 +34,80 @@ def read_record(record=1, related=False):
 def a_disk(site, faults=()):
     disk = site.disk(cylinders=1, heads=1, track_bytes=40, records=[Record(0, 0, 1, b"\xC1\xC2\xC3\xC4")], faults=faults)
     return disk, disk.open(extents=TRACK)
+
+
+def shown(entry):
+    """An entry as the record of its unit has it (docs/REPORT.md), without what the record adds."""
+    kind, csw = entry.kind, entry.csw
+    request = {"task": entry.name.task, "request": entry.name.number} if entry.name else {}
+    members = {
+        EntryKind.OPENED: ("opened", {"dcb": entry.dcb, "way": "output" if entry.way == Method.OUTPUT else "input"}),
+        EntryKind.ARRIVED: ("arrived", request),
+        EntryKind.STARTED: ("started", request),
+        EntryKind.RAN: ("ran", {**request, "commands": entry.commands}),
+        EntryKind.HALTED: ("halted", request),
+        EntryKind.PURGED_DCB: ("purge", {"dcb_purged": entry.dcb, "mode": Mode(entry.way).name.lower()}),
+        EntryKind.PURGED_TASK: ("purge", {"task_purged": entry.task, "mode": Mode(entry.way).name.lower()}),
+        EntryKind.CLOSED: ("closed", {"dcb": entry.dcb}),
+        EntryKind.RESET: ("reset", {"dcb": entry.dcb}),
+        EntryKind.POSTED: ("posted", {**request, "code": f"{entry.code:02X}", "address": f"{csw.address:06X}",
+                                      "status": f"{csw.unit:02X}{csw.sub:02X}", "residual": f"{csw.residual:04X}",
+                                      "sense": f"{entry.sense:04X}"}),
+    }
+    what, rest = members[kind]
+    return {"what": what, **rest}
+
+
+class Entries(unittest.TestCase):
+    """The entries of a trace, against the record of the unit."""
+
+    def are_those_of_the_record(self, unit):
+        events = [it for it in map(json.loads, unit.record().splitlines()) if "entry" in it]
+        entries = list(map(shown, unit.entries()))
+        self.assertEqual(len(entries), unit.count_entries())
+        # the record has runs of one request in a row as one event
+        for event in events:
+            turns = event.get("turns", 1)
+            first = entries[event["entry"] - 1]
+            together = entries[event["entry"] - 1 : event["entry"] - 1 + turns]
+            if turns > 1:
+                first = {**first, "commands": sum(it["commands"] for it in together)}
+            self.assertEqual({key: event[key] for key in first}, first)
+        self.assertEqual(sum(it.get("turns", 1) for it in events), len(entries))
+        return [it["what"] for it in events]
+
+    def test_each_kind(self):
+        with Site(tasks=2) as site:
+            disk, dcb = a_disk(site, [Fault(5)])
+            for task in 0, 0, 1, 1:
+                site.issue(task, dcb, read_record())
+            disk.take(), disk.take(), disk.start(), disk.run(1), disk.run(1), dcb.purge(Mode.HALT), disk.interrupt()
+            disk.take(), disk.start(), disk.run(64), disk.interrupt(), disk.take(), disk.purge_task(1)
+            dcb.reset(), disk.open(Method.INPUT, TRACK), dcb.close()
+            told = self.are_those_of_the_record(disk)
+            self.assertEqual(set(told), {"opened", "arrived", "started", "ran", "halted", "purge", "closed", "reset", "posted"})
+            self.assertEqual([it.kind for it in disk.entries(disk.count_entries() - 1)], [EntryKind.CLOSED])
+
+    def test_after_a_checkpoint(self):
+        """Places begin anew, and numbers of requests go on."""
+        with Site() as site:
+            disk, dcb = a_disk(site)
+            for number in 1, 2:
+                site.issue(0, dcb, read_record())
+                disk.serve()
+                site.posts(0)
+                arrived = next(it for it in disk.entries() if it.kind == EntryKind.ARRIVED)
+                self.assertEqual(arrived.name, Name(0, 0, number))
+                disk.checkpoint()
+            self.assertEqual([it.kind for it in disk.entries()], [EntryKind.OPENED])
+
+    def test_of_no_unit(self):
+        with Site() as site, Site() as other:
+            disk, _ = a_disk(site)
+            disk._calls = other.calls
+            with self.assertRaises(excp.ExcpError) as raised:
+                next(disk.entries())
+            self.assertEqual(raised.exception.status, Status.NO_UNIT)
 
 
 class Requests(unittest.TestCase):

@@ -192,6 +192,7 @@ REJECTED_BY_TOOLS = [
     [],
     ["--version"],
     ["check"],
+    ["step"],
     ["report", "--steps"],
     ["report", "file"],
     ["report", "form=pdf"],
@@ -200,7 +201,7 @@ REJECTED_BY_TOOLS = [
     ["report", "load=x=3=name"],
     ["report", "save=0=3"],
     ["outcomes", "outcome=0,0,1"],
-    ["step", b"title=\xff"],
+    ["report", b"load=\xff"],
 ]
 
 # Words that ask for help, and texts that it has, each judged alone. Help of `run` and of the whole program goes to standard

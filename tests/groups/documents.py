@@ -119,10 +119,9 @@ STEP = re.compile(r"^\| (\d+\.?) \| .+ \| (`.+`) \| (.+) \|$", re.M)
 
 
 def steps_hold():
-    """Each step of a request, and of a job, names functions or types that are in the files that it names."""
+    """Each step of a request names functions or types that are in the files that it names."""
     steps = STEP.findall(read(f"{TOP}/docs/ARCHITECTURE.md"))
-    due = [f"{it}" for it in range(1, 26)] + [f"{it}." for it in range(1, 10)]
-    require([it[0] for it in steps] == due, "ARCHITECTURE.md has no steps 1 to 25 of a request, or 1 to 9 of a job")
+    require([it[0] for it in steps] == [f"{it}" for it in range(1, 26)], "ARCHITECTURE.md has no steps 1 to 25 of a request")
     for number, names, files in steps:
         names, files = re.split("[,;] ", names), files.split("; ")
         require(len(files) in (1, len(names)), f"step {number}: {len(names)} functions and {len(files)} files")

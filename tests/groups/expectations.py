@@ -368,7 +368,7 @@ def without_reader(setup):
 
 
 def fails_with_programs(setup):
-    """A program that cannot run, or ends otherwise, fails the tests."""
+    """A program that cannot run, or ends otherwise, fails the tests of jobs. A scenario needs none."""
     if not setup.tools.startswith("/"):
         raise Skipped("no absolute path")
     with folder_of({"a.script": READ, "a.posts": POSTS, "b.scenario": HALT, "bin/excp_tools": "#!/bin/sh\necho no memory >&2\nexit 3\n"}) as folder:
@@ -376,7 +376,7 @@ def fails_with_programs(setup):
         shutil.copy(f"{folder}/bin/excp_tools", f"{folder}/bin/excp_job")
         words = [f"{TOP}/tests/package.py", f"{folder}/bin/excp_tools", "test", "."]
         ran = subprocess.run(["python3", *words], cwd=folder, capture_output=True, text=True, check=False)
-        due = f"FAILED a.script\n  no memory\nFAILED b.scenario\n  no memory\n{SUM(0, 2, '')}"
+        due = f"FAILED a.script\n  no memory\nok b.scenario\n{SUM(1, 1, '')}"
         require((ran.returncode, ran.stdout, ran.stderr) == (1, due, ""), f"another outcome: {ran}")
         os.remove(f"{folder}/bin/excp_job")
         os.mkdir(f"{folder}/bin/excp_job")

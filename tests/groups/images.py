@@ -491,10 +491,11 @@ def is_unpacked_to_be_loaded(setup, name, image, saved):
         how = {"cwd": folder, "env": {**os.environ, "TMPDIR": f"{folder}/temporary"}}
         expect(run(words, idle(name), **how), (0, "end 0\n"))
         require(bytes_of(f"{folder}/saved") == saved, "another image is saved")
-        for word, script in ("outcomes", idle(name)), ("step", idle(name).replace("wait 0", "finish")):
-            ran = run(setup.command(word, "--load", "0=it"), script, **how)
+        for word, script, save in ("outcomes", idle(name), ()), ("step", idle(name).replace("wait 0", "finish"), ("--save", "0=stepped")):
+            ran = run(setup.command(word, "--load", "0=it", *save), script, **how)
             require((ran.status, ran.err) == (0, ""), "not loaded", ran)
-        require(os.listdir(f"{folder}/temporary") == [] and len(os.listdir(folder)) == 3, "a file is left")
+        require(bytes_of(f"{folder}/stepped") == saved, "step saves another image")
+        require(os.listdir(f"{folder}/temporary") == [] and len(os.listdir(folder)) == 4, "a file is left")
 
 
 def unpacked():

@@ -16,7 +16,6 @@ import tempfile
 
 from groups import images
 from groups import random as at_random
-from groups import scenarios
 from harness import SAMPLES, TOP, Case, Failed, Skipped, expect, files, multiple, outcome, read, require, run
 
 # The library, what says that its exports were proved, and what `build` found: what lacks, or a run that failed.
@@ -94,29 +93,29 @@ def without_words():
     return {key: it for key, it in os.environ.items() if key not in ("EXCP_LIBRARY", "PYTHONPATH", "PYTHONHOME")}
 
 
-# --- scripts and scenarios through the library
+# --- scripts through the library
 
 
-def driven(word, texts, suffix):
-    """What the driver prints of each text, and its run."""
+def driven(texts):
+    """What the driver prints of each script, and its run."""
     needs()
     with tempfile.TemporaryDirectory() as folder:
-        names = [f"{folder}/{at}.{suffix}" for at in range(len(texts))]
+        names = [f"{folder}/{at}.script" for at in range(len(texts))]
         for name, text in zip(names, texts):
             with open(name, "w", encoding="ascii", newline="") as it:
                 it.write(text)
-        ran = run([sys.executable, "-B", DRIVER, word, *names], timeout=600, env=without_words())
+        ran = run([sys.executable, "-B", DRIVER, "run", *names], timeout=600, env=without_words())
     if len(texts) == 1:
         return [ran.out], ran
     prints = [part.partition("\n")[2] for part in ran.out.split("=== ")[1:]]
     return prints + [None] * (len(texts) - len(prints)), ran
 
 
-def prints_the_same(setup, word, texts, suffix, *words):
-    """The driver prints of each text what the program prints."""
-    found, through = driven(word, texts, suffix)
+def prints_the_same(setup, texts):
+    """The driver prints of each script what the program prints."""
+    found, through = driven(texts)
     for text, actual in zip(texts, found):
-        ran = setup.run(word, *words, script=text)
+        ran = setup.run("run", script=text)
         require((ran.status, ran.err) == (0, ""), "the program fails", ran)
         if actual != ran.out:
             raise Failed("the library gives something else", ran, ran.out, through.text() if actual is None else actual)
@@ -125,7 +124,7 @@ def prints_the_same(setup, word, texts, suffix, *words):
 
 def posts_are_those_stored(script, wanted):
     """The driver prints one of some stored texts."""
-    _, ran = driven("run", [script], "script")
+    _, ran = driven([script])
     ran.input = script
     expect(ran, *((0, it) for it in wanted))
 
@@ -161,28 +160,12 @@ def without_races(lines):
         yield " ".join([word, *words])
 
 
-def with_events(chance, lines):
-    """A job of the group random as a scenario: some rooms, and events of units and tasks at random between its lines."""
-    rooms = "room intake {}", "room post {}", "room book 0 {}", "room book 1 {}"
-    yield from (it.format(chance.randint(1, 6)) for it in rooms if chance.random() < 0.3)
-    for line in lines:
-        if not line.startswith("wait "):
-            yield line
-        for _ in range(chance.randrange(9)):
-            unit, most = chance.randrange(3), chance.choice([1, 2, 3, 64, 1000])
-            of_unit = f"take {unit}", f"start {unit}", f"run {unit} {most}", f"interrupt {unit}", f"deliver {unit}"
-            yield chance.choice([*of_unit, *of_unit, f"collect {chance.randrange(2)}", f"serve {unit}", f"settle {unit}"])
-    yield "finish"
-
-
 def jobs_are_the_same(setup, seed):
-    """Jobs at random have the same posts, and as scenarios the same answers."""
+    """Jobs at random have the same posts."""
     chance = random.Random(seed)
     jobs = [at_random.job_at_random(chance, at_random.STEPS).lines for _ in range(BATCH)]
     scripts = ["\n".join([*at_random.SET_UP, *without_races(it), ""]) for it in jobs]
-    prints_the_same(setup, "run", scripts, "script")
-    events = ["\n".join([*at_random.SET_UP, *with_events(chance, it), ""]) for it in jobs]
-    prints_the_same(setup, "step", events, "scenario")
+    prints_the_same(setup, scripts)
 
 
 # --- images
@@ -381,11 +364,6 @@ def is_installed(*how):
 
 def through_python(setup):
     origin = "the program, by docs/SPECIFICATION.md"
-    for file in scenarios.scenarios():
-        judge = lambda f=file: prints_the_same(setup, "step", [read(f)], "scenario")
-        yield Case(f"scenario {os.path.basename(file)}", judge, origin)
-    for name, give in scenarios.made():
-        yield Case(f"scenario {name}", lambda g=give: prints_the_same(setup, "step", g(), "scenario"), origin)
     for name, script, texts in stored_scripts():
         yield Case(f"script {name}", lambda s=script, t=texts: posts_are_those_stored(s, t), "docs/SPECIFICATION.md")
     for seed in range((JOBS_LONG if setup.is_long else JOBS) // BATCH):

@@ -284,14 +284,10 @@ def programs(setup):
     name, it = plan("run", prints_all_or_nothing, STORED, POSTS, "--channels", "4", "--handlers", "3", kind="thread", calls=4, least=2)
     yield f"{name}: threads", it
     # the groups histories, reports and pages judge what the package makes of these records
-    scenarios = f"{SAMPLES}/scenarios/halt-an-active-request.scenario", f"{CASES}/scenarios/purge_of_one_task_over_units_halt.scenario"
-    for word, form, script in (
-        ("report", "events", f"{SAMPLES}/read.script"),
-        *(("report", it, f"{SAMPLES}/how-programs-end.script") for it in ("posts", "steps")),
-        *(("step", "steps", it) for it in scenarios),
-    ):
-        words = [setup.tools, word, f"form={form}"]
-        name, whole = f"{word} {form} {os.path.relpath(script, TOP)}", run(words, read(script)).out
+    of_programs = f"{SAMPLES}/how-programs-end.script"
+    for form, script in ("events", f"{SAMPLES}/read.script"), ("posts", of_programs), ("steps", of_programs):
+        words = [setup.tools, "report", f"form={form}"]
+        name, whole = f"report {form} {os.path.relpath(script, TOP)}", run(words, read(script)).out
         yield name, Plan(words, prints_a_part, script, whole)
         if form == "events":
             yield f"{name}: threads", Plan(words, reports_threads, script, whole, kind="thread", calls=1)

@@ -23,6 +23,7 @@ import formats
 import places
 import reports
 import scenario_reports
+import states
 from groups import random as at_random
 from groups.samples import without_history
 from groups.scenarios import AT_ONCE, BY_COMMANDS, OTHERS, disturbed, every_command, looks_the_same, scenarios
@@ -316,16 +317,22 @@ def lines_have_form(setup):
     """The lines of the records of all stored scripts and scenarios are of the kinds that the document shows, and these are all of
     its kinds."""
     forms, found = reports.form_of_lines(), set()
-    scripts = [("report", script) for _, script, _ in stored()]
-    for word, script in [*scripts, *(("step", read(file)) for file in scenarios())]:
-        for most in "", "most=1":
-            ran = run([setup.tools, word, "form=steps", *filter(None, [most])], script)
+    for most in None, 1:
+        for _, script, _ in stored():
+            ran = run([setup.tools, "report", "form=steps", *([f"most={most}"] if most else [])], script)
             require(ran.status == 0, "the record fails", ran)
-            lines = reports.lines_of(ran.out)
-            reports.check_form(lines, "line", forms)
-            found |= {reports.kind_of(it, "line") for it in lines}
+            found |= kinds_of_lines(ran.out, forms)
+        for file in scenarios():
+            found |= kinds_of_lines("".join(states.record_of_scenario(read(file), most)), forms)
     due = {kind for kind in forms if kind.startswith("line ")}
     require(found == due, f"the document and the records do not both have {sorted(found ^ due)}")
+
+
+def kinds_of_lines(text, forms):
+    """The kinds of the lines of a record, each of which has its form."""
+    lines = reports.lines_of(text)
+    reports.check_form(lines, "line", forms)
+    return {reports.kind_of(it, "line") for it in lines}
 
 
 def writes_to_its_end(setup, word, file):

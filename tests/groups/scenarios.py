@@ -1,5 +1,6 @@
 """Scenarios, event by event, with locks and without: what each event answers, each expectation changed in turn, and each
-allocation made to fail. `step` has neither locks nor rows; the program locked_steps (crates/locked_steps) has both.
+allocation made to fail. `step` carries them out on the library, which has neither locks nor rows; the program locked_steps
+(crates/locked_steps) has both.
 
 The files are tests/cases/scenarios/*.scenario and samples/scenarios/*.scenario, whose `expect` lines follow from
 docs/SPECIFICATION.md, tests/cases/scenarios/*.findings, with scenarios that have faults and what is printed of them, and
@@ -8,9 +9,12 @@ Scenarios that are made here are too long for a file, or too many.
 """
 
 import os
+import pty
+import random
 import re
 import subprocess
 
+from groups import random as at_random
 from harness import CASES, SAMPLES, TOP, Case, Failed, Skipped, expect, files, multiple, read, require, run
 
 FOLDER = f"{SAMPLES}/scenarios"
@@ -39,6 +43,11 @@ BY_COMMANDS = "start 0", "run 0 1", "run 0 1", "run 0 1", "interrupt 0"
 
 # What meets them.
 OTHERS = "purge 0 0 1 quiesce", "purge 0 0 1 halt", "close 0 0 1"
+
+# How many jobs at random there are, also in the long form, and how many are one case.
+JOBS = 200
+JOBS_LONG = 10000
+BATCH = 25
 
 # The commands of each kind of device: all other codes are rejected, but those with low bits 0000 and 1000, which are no
 # commands.
@@ -146,12 +155,30 @@ def answers_at_once(setup, file):
     require(it.returncode == 0, f"status {it.returncode}")
 
 
-def runs_out_of_memory(setup, has_locks, file, lacks, refusals):
-    """With each allocation made to fail in turn, a scenario prints all, or a part and that memory ran out."""
+def talks_at_a_terminal(setup):
+    """At a terminal a line at fault does not end the dialog, answers have words, and a request that no unit took is named."""
+    excp, request = EXCP.format(0), "request {} of task 0 to unit 0"
+    typed = ["tasks 1", DISK + READ + "taek 0", excp, "take 0", "take 9", "start 0", "run 0 16", "interrupt 0", excp, ""]
+    due = [f"{excp}: Accepted 0 0 1  # {request.format(1)}", f"take 0: Took 0 0 1  # {request.format(1)}",
+           f"start 0: Started 0 0 1  # {request.format(1)}", "run 0 16: Ran 3 pending",
+           f"interrupt 0: Ended 0 0 1 7F  # {request.format(1)}: ended", f"{excp}: Accepted 0 0 2  # {request.format(2)}", ""]
+    terminal, end = pty.openpty()
+    with subprocess.Popen(setup.command("step"), stdin=end, stdout=subprocess.PIPE, stderr=subprocess.PIPE, text=True) as it:
+        os.close(end)
+        os.write(terminal, "\n".join(typed).encode() + b"\x04")
+        out, err = it.communicate(timeout=60)
+    os.close(terminal)
+    require((it.returncode, out) == (0, "\n".join(due)), f"it prints {out!r}, with status {it.returncode}")
+    faults = r"<stdin>:6: Words: [^\n]*'take'[^\n]*\n<stdin>:9: Name: [^\n]*\n"
+    require(re.fullmatch(f"{faults}# {request.format(2)} was issued and never taken\n", err), f"standard error has {err!r}")
+
+
+def runs_out_of_memory(setup, file, lacks, refusals):
+    """With each allocation made to fail in turn, a scenario under locks prints all, or a part and that memory ran out."""
     setup.skip_unproved()
     if lacks:
         raise Skipped(lacks)
-    words = [locked_steps(setup)] if has_locks else [setup.tools, "step"]
+    words = [locked_steps(setup)]
     # the `expect` lines of the scenario judge this text
     plan = refusals.Plan(words, refusals.prints_a_part, file, run(words, read(file)).out)
     plan.judged(os.path.basename(words[0]), 1)
@@ -188,6 +215,28 @@ def disturbed(service, other, place):
     left = sorted(((*REQUESTS[it], ends[it]) for it in order), key=lambda it: it[0])
     posts = [f"expect post {task} 0 {number} {end} -" for task, number, end in left]
     return "\n".join([*text, "finish", "expect Finished 4", *posts, ""])
+
+
+def with_events(chance, lines):
+    """A job of the group random as a scenario: some rooms, and events of units and tasks at random between its lines."""
+    rooms = "room intake {}", "room post {}", "room book 0 {}", "room book 1 {}"
+    yield from (it.format(chance.randint(1, 6)) for it in rooms if chance.random() < 0.3)
+    for line in lines:
+        if not line.startswith("wait "):
+            yield line
+        for _ in range(chance.randrange(9)):
+            unit, most = chance.randrange(3), chance.choice([1, 2, 3, 64, 1000])
+            of_unit = f"take {unit}", f"start {unit}", f"run {unit} {most}", f"interrupt {unit}", f"deliver {unit}"
+            yield chance.choice([*of_unit, *of_unit, f"collect {chance.randrange(2)}", f"serve {unit}", f"settle {unit}"])
+    yield "finish"
+
+
+def at_random_with_locks(setup, seed):
+    """Jobs at random, as scenarios with events at random between their lines, are answered alike with locks and without."""
+    chance = random.Random(seed)
+    for _ in range(BATCH):
+        job = at_random.job_at_random(chance, at_random.STEPS)
+        looks_the_same(setup, "\n".join([*at_random.SET_UP, *with_events(chance, job.lines), ""]))
 
 
 def most_dcbs():
@@ -254,12 +303,13 @@ def cases(setup):
         yield Case(f"{name}: entries and states", lambda f=file: looks_the_same(setup, read(f)), f"{place}, by docs/MANUAL.md")
         yield Case(f"{name}: check", lambda f=file, p=place: is_accepted(setup, read(f), p), f"{place}, by docs/MANUAL.md")
         yield Case(f"{name}: each expectation changed", lambda f=file: is_missed(setup, f), f"{place}, by docs/MANUAL.md")
-        for has_locks, program in (False, "step"), (True, "locked_steps"):
-            judge = lambda h=has_locks, f=file: runs_out_of_memory(setup, h, f, lacks, refusals)
-            yield Case(f"{name}: each allocation of {program}", judge, f"{place}, by docs/MANUAL.md")
+        judge = lambda f=file: runs_out_of_memory(setup, f, lacks, refusals)
+        yield Case(f"{name}: each allocation of locked_steps", judge, f"{place}, by docs/MANUAL.md")
     origin = "tests/groups/scenarios.py, by docs/SPECIFICATION.md"
     for name, give in made():
         yield Case(name, lambda g=give: are_met(setup, g), origin)
+    for seed in range((JOBS_LONG if setup.is_long else JOBS) // BATCH):
+        yield Case(f"{BATCH} jobs at random: {seed}", lambda s=seed: at_random_with_locks(setup, s), "the units under locks, by docs/MANUAL.md")
     yield Case("turns_of_sixty_four_commands", lambda: has_turns(setup), origin)
     for word in "step", "report":
         yield Case(f"output_is_not_written: {word}", lambda w=word: with_full_output(setup, w), "docs/MANUAL.md")
@@ -271,4 +321,5 @@ def cases(setup):
         for name, script, wanted, place in multiple(file):
             yield Case(name, lambda s=script, w=wanted: shows(setup, s, w), f"{place}, by docs/MANUAL.md")
     file = f"{CASES}/scenarios/close_lets_active_retry.scenario"  # each of its events is answered by one line
+    yield Case("at a terminal", lambda: talks_at_a_terminal(setup), "docs/MANUAL.md")
     yield Case("through a pipe", lambda: answers_at_once(setup, file), "docs/MANUAL.md")

@@ -1,8 +1,7 @@
 #!/usr/bin/env python3
-"""Carries out scripts and scenarios through the library by its Python package, and prints what the program would print.
+"""Carries out scripts through the library by its Python package, and prints what the program would print.
 
     tests/library/driver.py run [FILE ..]     the posts of a script, as `excp_job run`
-    tests/library/driver.py step [FILE ..]    the answers of a scenario, as `excp step`
     tests/library/driver.py load [FILE ..]    of each image a line `FILE: kept`, or its fault
 
 Words `U=IMAGE` before the files load unit U from an image, and `IMAGE=U` saves its medium, as `--load` and `--save`. Without a
@@ -16,14 +15,11 @@ import sys
 
 sys.path.insert(0, os.path.join(os.path.dirname(os.path.realpath(__file__)), "..", "..", "python"))
 
-from excp import (TAPE_MARK, Area, BadImage, ExcpError, Fault, Full, Kind, Method, Mode, NoDcb, NoNumber, Record, Site, Status)
+from excp import TAPE_MARK, Area, BadImage, Fault, Method, Mode, NoDcb, Record, Site
 
-# The rooms that no line gives (docs/SPECIFICATION.md, 12.27), and how many requests a task of a run has under way (12.7).
+# How many requests fit into rows and books, and how many a task of a run has under way (docs/SPECIFICATION.md, 12.7).
 ROOM = 36157
 UNDER_WAY = 256
-
-# The most commands of a turn of `serve`. A program fetches fewer CCWs.
-TO_THE_END = 65535
 
 METHODS = {"in": Method.INPUT, "out": Method.OUTPUT}
 MODES = {"halt": Mode.HALT, "quiesce": Mode.QUIESCE}
@@ -40,7 +36,7 @@ class Job:
     """What the set-up lines declare, and the site that is made of it."""
 
     def __init__(self):
-        self.tasks, self.units, self.areas, self.rooms, self.shown = 0, [], [], {}, {}
+        self.tasks, self.units, self.areas, self.shown = 0, [], [], {}
         self.site = None
 
     def declare(self, words):
@@ -59,9 +55,7 @@ class Job:
             self.of(rest)["faults"].append(Fault(int(rest[1]), *(int(it, 16) for it in rest[2:])))
         elif word == "area":
             self.areas.append((int(rest[1], 16), b"".join(map(content, rest[2:]))))
-        elif word == "room":
-            self.rooms[" ".join(rest[:-1])] = int(rest[-1])
-        elif word == "open" and self.site is None:
+        elif word == "open":
             self.of(rest)["openings"].append(rest[1:])
         else:
             return False
@@ -72,10 +66,9 @@ class Job:
 
     def make(self):
         """Makes the site, with the DCBs of the set-up open."""
-        self.site = Site(self.tasks, self.rooms.get("post", ROOM))
+        self.site = Site(self.tasks, ROOM)
         for number, unit in enumerate(self.units):
-            room = {"in_flight": self.rooms.get("intake", ROOM), "held": self.rooms.get(f"book {number}", ROOM)}
-            made = self.mount(number, unit, {**room, "faults": unit["faults"]})
+            made = self.mount(number, unit, {"in_flight": ROOM, "held": ROOM, "faults": unit["faults"]})
             for words in unit["openings"]:
                 self.open(made, *words)
 
@@ -114,111 +107,6 @@ class Job:
     def line(self, post):
         """The line of a post."""
         return f"{post} {post.at(*self.shown[post.name]).hex().upper() or '-'}"
-
-
-# --- scenarios
-
-
-class Scenario(Job):
-    """A scenario: each call but `finish` carries out one event, and returns its answer."""
-
-    def answer(self, words):
-        """Carries out an event, and returns the lines of its answer."""
-        word, *rest = words
-        if word == "finish":
-            return self.finish()
-        call = getattr(self, f"on_{word}", None)
-        return [call(*rest) if call else str(getattr(self.site.units[int(rest[0])], word)(*map(int, rest[1:])))]
-
-    def on_excp(self, *words):
-        try:
-            return f"Accepted {self.excp(*words)}"
-        except (Full, NoNumber) as error:
-            return "Full" if isinstance(error, Full) else "NoNumber"
-
-    def on_open(self, unit, *words):
-        try:
-            return f"Opened {self.open(self.site.units[int(unit)], *words).number}"
-        except ExcpError as error:
-            return {Status.BAD_EXTENT: "BadExtent", Status.TOO_MANY_DCBS: "TooManyDcbs"}[error.status]
-
-    def on_purge(self, _task, unit, dcb, mode):
-        return self.of_dcb(lambda: self.dcb(unit, dcb).purge(MODES[mode]))
-
-    def on_close(self, _task, unit, dcb):
-        return self.of_dcb(self.dcb(unit, dcb).close)
-
-    def on_reset(self, _task, unit, dcb):
-        return self.of_dcb(lambda: self.dcb(unit, dcb).reset() or "Reset")
-
-    def of_dcb(self, call):
-        try:
-            return str(call())
-        except NoDcb:
-            return "NoSuchDcb"
-
-    def on_purgetask(self, _task, other, mode):
-        return ", ".join(map(str, self.site.purge_task(int(other), MODES[mode])))
-
-    def on_purgetaskat(self, _task, other, mode, unit):
-        return str(self.site.units[int(unit)].purge_task(int(other), MODES[mode]))
-
-    def on_collect(self, task):
-        post = self.site.next_post(int(task))
-        return self.line(post) if post else "Quiet"
-
-    def on_settle(self, unit):
-        self.site.units[int(unit)].settle()
-        return "Settled"
-
-    def on_serve(self, number):
-        """Makes each event of a unit once, until none changes it. The answer lists the deliveries."""
-        unit, answers = self.site.units[int(number)], []
-        while True:
-            events = unit.take(), unit.start(), unit.run(TO_THE_END), unit.interrupt()
-            moved = [it for it in events if it.kind not in (Kind.QUIET, Kind.HELD, Kind.BUSY, Kind.IDLE)]
-            delivered = unit.deliver()
-            if delivered.kind == Kind.DELIVERED or (not moved and (delivered.kind == Kind.ROW_FULL or not answers)):
-                answers.append(str(delivered))
-            if not moved and delivered.kind != Kind.DELIVERED:
-                return ", ".join(answers)
-
-    def finish(self):
-        """Does all that units and tasks can do, as often as rooms make it necessary."""
-        posts = []
-        while True:
-            for unit in self.site.units:
-                while unit.take().kind == Kind.TOOK:
-                    pass
-                unit.settle()
-                while unit.deliver().kind == Kind.DELIVERED:
-                    pass
-            posts += [post for task in range(self.tasks) for post in self.site.posts(task)]
-            if all(self.is_drained(unit.state) for unit in self.site.units):
-                posts.sort(key=lambda it: it.name[:2])
-                return [f"Finished {len(posts)}", *map(self.line, posts)]
-
-    def is_drained(self, state):
-        return not (state.in_flight or state.waiting or state.active or state.out)
-
-
-def step(text, out):
-    """Carries out a scenario. Returns how many expectations were not met."""
-    job, answers, missed = Scenario(), [], 0
-    for number, words in numbered(text):
-        if words[0] == "expect":
-            answered = answers.pop(0) if answers else "nothing"
-            if answered != " ".join(words[1:]):
-                print(f"{number}: expected: {' '.join(words[1:])}; answered: {answered}", file=sys.stderr)
-                missed += 1
-        elif job.site is not None or not job.declare(words):
-            if job.site is None:
-                job.make()
-            answers = job.answer(words)
-            out.write("".join(f"{' '.join(words)}: {it}\n" for it in answers))
-    if job.site is not None:
-        job.close()
-    return missed
 
 
 # --- scripts
@@ -284,7 +172,6 @@ def run(text, out):
     job.posts.sort(key=lambda it: it.name)
     out.write("".join(f"{job.line(it)}\n" for it in job.posts) + f"end {len(job.posts)}\n")
     job.close()
-    return 0
 
 
 # --- images
@@ -323,17 +210,16 @@ def main(word, *files):
         elif equals:
             SAVED[int(second)] = first
     files = [it for it in files if "=" not in it]
-    carry_out, missed = {"run": run, "step": step}[word], 0
     for file in files or ("/dev/stdin",):
         with open(file, encoding="ascii", errors="replace") as it:
             text = it.read()
         if len(files) > 1:
             print(f"=== {file}")
-        missed += carry_out(text, sys.stdout)
-    return 1 if missed else 0
+        run(text, sys.stdout)
+    return 0
 
 
 if __name__ == "__main__":
-    if len(sys.argv) < 2 or sys.argv[1] not in ("run", "step", "load"):
+    if len(sys.argv) < 2 or sys.argv[1] not in ("run", "load"):
         sys.exit(__doc__)
     sys.exit(main(*sys.argv[1:]))

@@ -110,6 +110,7 @@ typedef struct {
     excp_post post;
     excp_unit_state unit;
     excp_dcb_state dcb;
+    excp_trace_entry entry;
     excp_record record;
     excp_line line;
     uint8_t bytes[8300];
@@ -253,7 +254,9 @@ static excp_status made_call(excp_site *site, written *to)
     case 28: return chance(4) ? excp_reset(site, unit, dcb) : excp_close(site, unit, dcb, pointer(&to->answer));
     case 29: return excp_look(site, unit, pointer(&to->unit));
     case 30: return excp_look_dcb(site, unit, dcb, pointer(&to->dcb));
-    case 31: return excp_waiting(site, unit, place, pointer(&to->short_number), pointer(&to->number));
+    case 31:
+        return chance(2) ? excp_waiting(site, unit, place, pointer(&to->short_number), pointer(&to->number))
+                         : excp_look_entry(site, unit, place, pointer(&to->entry));
     case 32:
         return excp_read_record(site, unit, (uint16_t)number(2), (uint16_t)number(2), place, pointer(&to->record), bytes_at(to->bytes, room),
                                 room);

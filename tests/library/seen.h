@@ -75,6 +75,7 @@ static uint64_t seen_medium(excp_site *site, uint16_t unit, uint64_t sum)
 static uint64_t seen_unit(excp_site *site, uint16_t unit, const excp_unit_state *state, int has_record, uint64_t sum)
 {
     excp_dcb_state look;
+    excp_trace_entry entry;
     size_t length;
     sum = mixed_number(sum, state->active_number);
     sum = mixed_number(sum, (uint64_t)state->in_flight << 32 | state->in_flight_room);
@@ -89,13 +90,21 @@ static uint64_t seen_unit(excp_site *site, uint16_t unit, const excp_unit_state 
         sum = mixed_number(sum, excp_waiting(site, unit, place, &task, &number));
         sum = mixed_number(mixed_number(sum, task), number);
     }
+    for (uint32_t place = 0; has_record && excp_look_entry(site, unit, place, &entry) == EXCP_OK; place++) {
+        sum = mixed_number(sum, entry.number);
+        sum = mixed_number(sum, (uint64_t)entry.commands << 32 | entry.address);
+        sum = mixed_number(sum, (uint64_t)entry.task << 48 | (uint64_t)entry.dcb << 32 | (uint64_t)entry.residual << 16 | entry.sense);
+        sum = mixed_number(sum, (uint64_t)entry.kind << 16 | (uint64_t)entry.way << 8 | entry.code);
+        sum = mixed_number(sum, (uint64_t)entry.unit_status << 8 | entry.channel_status);
+    }
     sum = seen_medium(site, unit, sum);
     if (has_record && excp_make_record(site, unit, 0, &length) == EXCP_OK)
         sum = take_made(site, length, sum);
     return sum;
 }
 
-/* All that can be seen of a site: its units with their media, their records if wanted, and the first post of each of some tasks. */
+/* All that can be seen of a site: its units with their media, their entries and records if wanted, and the first post of each of
+ * some tasks. */
 static uint64_t seen(excp_site *site, int has_record)
 {
     uint64_t sum = 14695981039346656037u;

@@ -3,6 +3,7 @@ pub mod Buffers
 pub mod Calls
 pub mod Contents
 pub mod Done
+pub mod Entries
 pub mod Lending
 pub mod Looks
 pub mod Numbers

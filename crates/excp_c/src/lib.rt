@@ -6,6 +6,7 @@ mod buffer;
 mod contents;
 mod controls;
 mod dcbs;
+mod entries;
 mod events;
 mod handle;
 mod long_use;
@@ -20,6 +21,7 @@ mod texts;
 
 pub use answer::Answer;
 pub use contents::{Line, Record};
+pub use entries::TraceEntry;
 pub use events::Served;
 pub use handle::Handle;
 pub use looks::{DcbState, UnitState};

@@ -1,5 +1,5 @@
 -- WHAT A SITE TELLS of a unit (profile).
-use Rattle.std.specs.Prelude.{◌≡◌, ◌≢◌, ◌≤◌, ◌<◌, ◌-◌, ◌↔◌, Bool, IsTrue, ℕ, None, Option, Some, false, length, option_map, slice_get, true}
+use Rattle.std.specs.Prelude.{◌≡◌, ◌≢◌, ◌≤◌, ◌<◌, ◌-◌, ◌↔◌, Bool, IsTrue, ℕ, None, List, Option, Some, false, length, option_map, reverse, slice_get, true}
 use Rattle.any_device.specs.Devices.{any_device}
 use Rattle.any_device.specs.declared.device.AnyDevice.{AnyDevice}
 use Rattle.any_device.specs.declared.device.AnyDevice.TheVariants.{Disk, Printer}
@@ -12,6 +12,7 @@ use Rattle.unit_book.specs.Dcbs.{dcb_state, flag, mask_of}
 use Rattle.unit_book.specs.Media.{device}
 use Rattle.unit_book.specs.Trace.{active, waiting}
 use Rattle.unit_book.specs.declared.dcb.DcbState.TheVariants.{Unknown}
+use Rattle.unit_book.specs.declared.entry.Entry.{Entry}
 use Rattle.unit_world.specs.Parts.{UnitPart, active_state}
 use Rattle.unit_world.specs.Sites.{SiteState}
 use Rattle.excp_site.specs.Sites.{HasPart}
@@ -64,6 +65,18 @@ abbrev pub WaitingRefused : SiteState AnyDevice → ℕ → ℕ → Refusal → 
 WaitingRefused s unit place NoUnit = length s.units ≤ unit
 WaitingRefused s unit place NothingThere = HasPart s unit (λ p. option_map (λ r. r.name) (slice_get (waiting p.book.trace) place) ≡ None)
 WaitingRefused s unit place _ = ⊥
+
+-- THE ENTRY AT A PLACE of a trace, whose definitions have the newest first
+abbrev pub oldest_first : Book AnyDevice → List Entry
+oldest_first b = reverse b.trace
+
+abbrev pub TraceAt : UnitPart AnyDevice → ℕ → Option Entry → Type 0
+TraceAt p place entry = slice_get (oldest_first p.book) place ≡ entry
+
+abbrev pub EntryRefused : SiteState AnyDevice → ℕ → ℕ → Refusal → Type 0
+EntryRefused s unit place NoUnit = length s.units ≤ unit
+EntryRefused s unit place NothingThere = HasPart s unit (λ p. TraceAt p place None)
+EntryRefused s unit place _ = ⊥
 
 -- THE RECORD AT A PLACE of a track of a disk
 abbrev pub RecordAt : AnyDevice → ℕ → ℕ → ℕ → Option Record → Type 0

@@ -1,7 +1,7 @@
-//! `excp_tools` has what the words `report`, `step` and `outcomes` run. The package python/excp, whose command is `excp`, has
-//! judged all that its user types. It hands over plain words ([`words`]), the script as standard input, in plain lines, and the
-//! files of media, which it has opened. `report` runs a script, and prints the record of the run (docs/REPORT.md). `step` carries
-//! out a scenario event by event, and prints its answers or its record. `outcomes` prints the posts over all orders of steps.
+//! `excp_tools` has what the words `report` and `outcomes` run. The package python/excp, whose command is `excp`, has judged all that
+//! its user types. It hands over plain words ([`words`]), the script as standard input, in plain lines, and the files of media,
+//! which it has opened. `report` runs a script on threads, and prints the record of the run (docs/REPORT.md). `outcomes` prints the
+//! posts over all orders of steps.
 //!
 //! What is wrong with a script, an image, or a unit that has neither, the package says: the statuses from [`REFUSED`] on are for
 //! it.
@@ -9,6 +9,7 @@
 //! Tests: `tests/run command_line`, and every group that runs the program.
 #![tactic(auto)]
 
+mod file_name;
 mod images;
 mod outcomes;
 mod pace;
@@ -16,7 +17,6 @@ mod progress;
 mod record;
 mod report;
 mod saver;
-mod scenario;
 mod screen;
 mod script;
 mod words;
@@ -25,10 +25,7 @@ use images::load_all;
 use job_script::JobError;
 use outcomes::outcomes;
 use report::report;
-use scenario::step;
 use std::cell::Cell;
-use std::env;
-use std::io::IsTerminal;
 use std::process::ExitCode;
 use std::sync::Wait;
 use std::thread::Threads;
@@ -46,9 +43,6 @@ const NO_IMAGE: u8 = 8;
 /// A unit of an image, or of a medium to save, is not declared; or no model of disks is as the unit that is to be saved. Nothing
 /// was printed of it.
 const UNFIT: u8 = 9;
-
-/// An expectation of a scenario is not met, which was printed. All else is done.
-const UNMET: u8 = 10;
 
 /// Nothing reads the output any more. No medium is saved.
 const READER_GONE: u8 = 11;
@@ -70,7 +64,6 @@ fn carried_out<R: Threads + Wait + Sync>(rt: &HostRuntime, threads: &R, words: &
     let is_broken = Cell::new(false);
     let done = match words.word {
         Word::Report => report(rt, threads, words, images, &is_broken),
-        Word::Step => step(rt, words, images, &is_broken),
         Word::Outcomes => outcomes(rt, words, images, &is_broken),
     };
     match done {
@@ -87,9 +80,4 @@ fn ended_by(rt: &HostRuntime, fault: JobError) -> u8 {
     }
     let _ = eprintln!(rt; "excp: {fault}");
     fault.status()
-}
-
-/// Whether an output is a terminal, and `NO_COLOR` is unset or empty (no-color.org).
-fn takes_colour<T: IsTerminal + Drop>(rt: &HostRuntime, output: T) -> bool {
-    output.is_terminal() && env::var(rt, "NO_COLOR").map_or(true, |value| value.is_empty())
 }

@@ -1,6 +1,6 @@
 //! How far the reading or writing of a large file is, on a terminal.
 
-use job_step::FileName;
+use crate::file_name::FileName;
 use std::io::{IsTerminal, Read, Result, Write};
 
 /// How many bytes go by from one line of progress to the next, and before the first.

@@ -1,12 +1,12 @@
 //! Files that the package has opened for what a run leaves: media, and scenarios.
 
+use crate::file_name::FileName;
 use crate::progress::Progress;
 use crate::words::{OpenedFile, UnitFile, Words};
 use crate::{REJECTED, ended_by};
 use any_device::AnyDevice;
 use ckd_image::Kept;
 use job_script::{JobError, UnitSetup};
-use job_step::FileName;
 use medium_image::{SaveError, save};
 use std::alloc::Global;
 use std::fs::{File, OpenOptions};
@@ -90,20 +90,6 @@ pub fn not_written(rt: &HostRuntime, output: &OpenedFile, kind: ErrorKind) -> u8
     };
     let _ = eprintln!(rt; "excp: {}: {why}", FileName(output.name.as_str()));
     REJECTED
-}
-
-/// Writes a text to a file, and waits until it is on the disk. Returns the exit status.
-pub fn write_text(rt: &HostRuntime, output: &OpenedFile, text: &[u8]) -> u8 {
-    match try_text(rt, output, text) {
-        Ok(()) => 0,
-        Err(error) => not_written(rt, output, error.kind()),
-    }
-}
-
-fn try_text(rt: &HostRuntime, output: &OpenedFile, text: &[u8]) -> io::Result<()> {
-    let mut file = emptied(rt, output)?;
-    file.write_all(text)?;
-    file.sync_all()
 }
 
 fn write_medium<W: Write>(

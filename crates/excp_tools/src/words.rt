@@ -18,7 +18,6 @@ const USAGE: u8 = 2;
 #[derive(Clone, Copy)]
 pub enum Word {
     Report,
-    Step,
     Outcomes,
 }
 
@@ -57,9 +56,7 @@ pub struct OutcomePlace {
 #[derive(Drop)]
 pub struct Words {
     pub word: Word,
-    /// The name of the script.
-    pub title: String,
-    /// The part of the record; of a scenario, if there is none, its answers.
+    /// The part of the record.
     pub form: Option<Form>,
     /// The most commands of each unit that are printed.
     most: u64,
@@ -67,12 +64,6 @@ pub struct Words {
     pub saves: Vec<UnitFile>,
     channels: u8,
     handlers: u8,
-    /// The seed of a schedule, if the run has one, and the file of its scenario.
-    pub seed: Option<u64>,
-    pub schedule: Option<OpenedFile>,
-    /// What is printed after each answer.
-    pub trace: bool,
-    pub state: bool,
     /// How many commands a program does between two steps of others, the most states and seconds of a search, the runs by seeds that
     /// it is compared with, and those that take its place.
     pub turn: u32,
@@ -92,17 +83,12 @@ impl Words {
     fn new(alloc: Global, word: Word) -> Self {
         Words {
             word,
-            title: String::new(alloc),
             form: None,
             most: u64::MAX,
             loads: Vec::new(alloc),
             saves: Vec::new(alloc),
             channels: 1,
             handlers: 1,
-            seed: None,
-            schedule: None,
-            trace: false,
-            state: false,
             turn: 64,
             states: 1_000_000,
             seconds: u64::MAX,
@@ -135,13 +121,9 @@ impl Words {
     /// Takes a name with its value. Returns whether there is such a one.
     fn take(&mut self, alloc: Global, name: &str, value: &str) -> Result<bool, AllocError> {
         match name {
-            "title" => self.title = String::from_str(alloc, value)?,
             "load" => return added(alloc, &mut self.loads, value),
             "save" => return added(alloc, &mut self.saves, value),
-            "schedule" => return put(&mut self.schedule, opened(alloc, value)?),
             "scenarios" => return put(&mut self.scenarios, opened(alloc, value)?),
-            "trace" => self.trace = true,
-            "state" => self.state = true,
             "whole" => self.whole = true,
             "all" => self.all = true,
             _ => return Ok(self.set(name, value).is_some()),
@@ -157,7 +139,6 @@ impl Words {
             "channels" => self.channels = value.parse().ok()?,
             "handlers" => self.handlers = value.parse().ok()?,
             "most" => self.most = value.parse().ok()?,
-            "seed" => self.seed = Some(value.parse().ok()?),
             "turn" => self.turn = value.parse().ok()?,
             "states" => self.states = value.parse().ok()?,
             "seconds" => self.seconds = value.parse().ok()?,
@@ -224,7 +205,6 @@ fn words_of(rt: &HostRuntime) -> Result<Option<Words>, AllocError> {
 fn word_of(word: &str) -> Option<Word> {
     match word {
         "report" => Some(Word::Report),
-        "step" => Some(Word::Step),
         "outcomes" => Some(Word::Outcomes),
         _ => None,
     }

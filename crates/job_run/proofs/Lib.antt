@@ -17,3 +17,13 @@ pub mod Printed
 pub mod Prints
 pub mod Rans
 pub mod Beginnings
+pub mod Found
+pub mod Openings
+pub mod InOrder
+pub mod Sized
+pub mod OneTask
+pub mod Serial
+pub mod Worked
+pub mod Declared
+pub mod Opens
+pub mod Purged

@@ -9,3 +9,8 @@ pub mod Controls
 pub mod Ran
 pub mod Beginning
 pub mod Printing
+pub mod Orders
+pub mod Serial
+pub mod OneTask
+pub mod Serving
+pub mod Laws

@@ -15,6 +15,7 @@
 
 mod command_fault;
 mod job;
+pub mod laws;
 mod notes;
 mod output;
 mod rooms;

@@ -11,6 +11,7 @@ ghost use Rattle.job_run.specs.Filling.{AllListed, EndedBy, filled_at, listed_fr
 ghost use Rattle.job_run.specs.Printing.{ended_slots, script_text, tasks_text};
 ghost use Rattle.job_run.specs.Faults.{LeavesWriter};
 ghost use Rattle.job_run.specs.Ran.{IsDone, Ran};
+ghost use Rattle.job_run.specs.Serving.{LeavesOneAtATime, WritesOneAtATime};
 ghost use Rattle.excp_system.specs.Begun.{AreBegun};
 ghost use Rattle.excp_system.specs.Opening.{AreBooks, AreFresh};
 ghost use Rattle.post_ledger.specs.Report.{IsFor};
@@ -42,8 +43,11 @@ pub struct Finished<N> {
 }
 
 /// Reads a script, at most 1,048,576 bytes and one more. Runs its tasks beside these numbers of channel workers and
-/// interruption handlers, and writes the posts of its requests. The purges, closes and resets of each unit's trace are those
-/// of the script's commands, each task's in order, but for those that made no entry.
+/// interruption handlers, and writes the posts of its requests (`printed`). The purges, closes and resets of each unit's trace
+/// are those of the script's commands, each task's in order, but for those that made no entry.
+///
+/// If the script asks for no purge, close or reset, threads change nothing but the order in which tasks get to a unit that they
+/// share. The text is that of its requests one at a time, and if one task uses each unit, a function of the script (`serial`).
 ///
 /// Errors: the first fault of the script; out of memory, also if no thread can be made for a worker (never `NoThread`); a
 /// failed write, after a first part of the text. It writes only after the run, so every other error leaves the writer as it was.
@@ -56,6 +60,7 @@ pub fn run_script<R: Threads + Wait + Sync, I: Read, W: Write>(
 ) -> Result<(), JobError>
     ensures bounded { ReadsAtMost (LIMIT + 1) (I.remaining reader.old) (I.remaining reader.new) }
     ensures unwritten { IfErr result (λ fault. LeavesWriter fault writer.old writer.new) }
+    ensures serial { OnOk result (WritesOneAtATime LIMIT (I.remaining reader.old) (I.remaining reader.new) (W.contents writer.old) (W.contents writer.new)) }
     ensures printed { OnOk result (PrintsPosts LIMIT (I.remaining reader.old) (I.remaining reader.new) (W.contents writer.old) (W.contents writer.new)) }
     ensures fault { IfErr result (EndsWriting LIMIT (I.remaining reader.old) (I.remaining reader.new) (W.contents writer.old) (W.contents writer.new)) }
     ensures threads { IfErr result (λ fault. fault ≢ JobError.NoThread) }
@@ -109,6 +114,7 @@ pub fn run_parsed<R: Threads + Wait + Sync, N: Notes + Send + Sync>(
     ensures ran { IfOk result (λ finished. Ran (said script.now) finished.report.books) }
     ensures began { IfOk result (λ finished. AreBegunWith given.items (said script.now) finished.report.books) }
     ensures text { IfOk result (λ finished. tasks_text 0 (map ended_slots finished.tasks.items) ≡ script_text (said script.now) finished.report.books) }
+    ensures serial { IfOk result (λ finished. LeavesOneAtATime given.items (said script.now) finished.tasks.items) }
     ensures fault { IfErr result (EndsParsed given.items (said script.now)) }
 {
     let (rows, books) = rows_and_books(alloc, script, given)?;

@@ -5,12 +5,12 @@ ghost use Rattle.std.specs.Option.{option_copied};
 ghost use Rattle.excp_system.specs.Drained.{ArePlaced};
 ghost use Rattle.job_mount.specs.Requests.{CanIssue};
 
+use crate::view::View;
 use any_device::AnyDevice;
 use excp_system::{Opened, System, Task, UnitState};
 use job_mount::request;
 use job_scenario::Step;
 use job_script::{Excp, Opening};
-use job_step::View;
 use job_world::{Issuing, StepAnswer, Supply};
 use post_ledger::finish;
 use request_piece::{Posted, Scope};

@@ -4,13 +4,17 @@ ghost use Rattle.std.specs.Prelude.{◌≡◌, ◌≤◌, All, true, vec_len};
 ghost use Rattle.job_mount.specs.Books.{IsFresh};
 ghost use Rattle.excp_system.specs.Opening.{AreFresh, site_of};
 
+use crate::answer::write_end;
+use crate::dialog::Dialog;
+use crate::line_steps::LineSteps;
 use crate::locked::Locked;
+use crate::plan::Plan;
+use crate::task_records::TaskRecords;
+use crate::view::{View, Views};
 use any_device::AnyDevice;
 use excp_system::{Opened, Rows, System};
 use job_scenario::Step;
 use job_script::{JobError, LIMIT, SetUp};
-use job_step::{Dialog, LineSteps, Plan, View, Views, write_end};
-use recorded_run::StepPast;
 use std::alloc::{AllocError, Global};
 use std::io::{Read, Write};
 use std::marker::Brand;
@@ -31,9 +35,9 @@ pub fn with_rows<R: Wait, I: Read + Drop, W: Write, E: Write>(
     let units = plan.set_up.units.len() as u16;
     let (intake, post) = (plan.rooms.intake(), plan.rooms.post());
     let mut rows = Rows::new(alloc, plan.set_up.tasks, units, intake, post)?;
-    let books = plan.books(alloc, Vec::new(alloc))?;
+    let books = plan.books(alloc)?;
     let view = View::new(alloc, views, &books)?;
-    let past = StepPast::new(alloc, usize::from(plan.set_up.tasks), &books)?;
+    let past = TaskRecords::new(alloc, usize::from(plan.set_up.tasks), books.len())?;
     on_site::<Brand, R, I, W, E>(
         rt,
         alloc,
@@ -54,7 +58,7 @@ fn on_site<S: Opened<AnyDevice>, R: Wait, I: Read + Drop, W: Write, E: Write>(
     books: Vec<UnitBook<AnyDevice>>,
     set_up: &SetUp,
     view: View,
-    past: StepPast,
+    past: TaskRecords,
     dialog: &mut Dialog<'_, I, W, E>,
 ) -> Result<(), JobError>
     requires site { S.rows ≡ site_of rows.old }
@@ -81,7 +85,7 @@ fn all_events<S: Opened<AnyDevice>, R: Wait, I: Read + Drop, W: Write, E: Write>
     mut locked: Locked<'_, '_, S, R>,
     set_up: &SetUp,
     mut view: View,
-    mut past: StepPast,
+    mut past: TaskRecords,
     dialog: &mut Dialog<'_, I, W, E>,
 ) -> Result<(), JobError> {
     for _ in 0..=LIMIT {
@@ -107,7 +111,7 @@ fn make_all<S: Opened<AnyDevice>, R: Wait>(
     alloc: Global,
     locked: &mut Locked<'_, '_, S, R>,
     steps: &mut LineSteps,
-    past: &mut StepPast,
+    past: &mut TaskRecords,
     text: &mut Vec<u8>,
 ) -> Result<(), AllocError> {
     for _ in 0..u64::MAX {
@@ -116,7 +120,7 @@ fn make_all<S: Opened<AnyDevice>, R: Wait>(
         };
         let supply = steps.supply();
         let answer = locked.make(alloc, step, supply)?;
-        past.note_task(supply.excp, &answer)?;
+        past.note(supply.excp, &answer)?;
         steps.answered(text, &answer, past)?;
     }
     Ok(())
@@ -139,7 +143,7 @@ fn end<S: Opened<AnyDevice>, R: Wait, I: Read + Drop, W: Write, E: Write>(
     alloc: Global,
     locked: Locked<'_, '_, S, R>,
     view: &mut View,
-    past: &mut StepPast,
+    past: &mut TaskRecords,
     dialog: &mut Dialog<'_, I, W, E>,
 ) -> Result<(), JobError> {
     let (books, posts) = locked.finish(alloc)?;

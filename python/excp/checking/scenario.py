@@ -44,63 +44,67 @@ def check_scenario(text: bytes, images: Images = NO_IMAGES) -> list[Finding]:
     lines = lines_of(with_sizes(text, images))
     if not lines[-1]:
         lines.pop()
-    check = _ScenarioCheck(images)
+    check = ScenarioCheck(images)
     for number, line in enumerate(lines, 1):
         check.read(number, Text(line))
     check.end_set_up()
     return check.findings
 
 
-class _ScenarioCheck:
-    """What a scenario declares, and what was found in it. After a fault of the set-up, events are
-    only read: whether the names in them are declared is not known."""
+class ScenarioCheck:
+    """What a scenario declares, and what was found in it, as its lines are read one by one. After a
+    fault of the set-up, events are only read: whether the names in them are declared is not known.
+
+    `sizes` has the sizes of all intake rows, of all post rows and of the books of units."""
 
     def __init__(self, images: Images) -> None:
         self.findings: list[Finding] = []
+        self.set_up = SetUp()
+        self.is_set_up = False
+        self.sizes: dict[tuple[str, Optional[int]], int] = {}
         self._images = images
-        self._set_up = SetUp()
-        self._sizes: set[tuple[str, Optional[int]]] = set()
         self._first_event: Optional[int] = None
-        self._is_set_up = False
-        self._are_names_known = False
+        self.are_names_known = False
         self._finish: Optional[int] = None
 
-    def read(self, number: int, text: Text) -> None:
-        """Adds what a line says, or what is wrong with it."""
+    def read(self, number: int, text: Text) -> Optional[Line]:
+        """Adds what a line says, or what is wrong with it. Returns what it says."""
+        line = None
         try:
             line = read_scenario_line(number, text)
             if line is None:
-                return
-            if isinstance(line, _EVENTS) and not self._is_set_up:
+                return None
+            if isinstance(line, _EVENTS) and not self.is_set_up:
                 self._first_event = number
                 self.end_set_up()
-            if not self._is_set_up:
+            if not self.is_set_up:
                 self._declare(line, text)
-            elif self._are_names_known and not isinstance(line, Expect):
+            elif self.are_names_known and not isinstance(line, Expect):
                 self._check_event(line, text)
         except Refused as refused:
             self.findings.append(_refused_line(number, text, refused, self._images))
+        return line
 
     def end_set_up(self) -> None:
         """Finds what is wrong with the whole set-up, unless a line of it has a fault."""
-        if self._is_set_up:
+        if self.is_set_up:
             return
-        self._is_set_up = True
+        self.is_set_up = True
         if self.findings:
             return
-        lacks = "the tasks: add a line 'tasks N'" if not self._set_up.tasks else ""
-        if not lacks and not self._set_up.units:
+        lacks = "the tasks: add a line 'tasks N'" if not self.set_up.tasks else ""
+        if not lacks and not self.set_up.units:
             lacks = "a unit: add a line 'disk', 'tape' or 'printer'"
         if lacks:
             lack = f"no line before the first event declares {lacks}"
             self.findings.append(Finding(None, lack, FaultName.ORDER))
             return
-        self._are_names_known = True
+        self.are_names_known = True
         self.findings += self._faults_of_units()
 
     def _faults_of_units(self) -> list[Finding]:
         """Why units are not mounted: the first image that does not fit its unit, or all else."""
-        units = self._set_up.units
+        units = self.set_up.units
         images = [(unit, self._images.get(number)) for number, unit in enumerate(units)]
         for unit, image in images:
             misfit = None if image is None else first_misfit(unit, image)
@@ -116,15 +120,15 @@ class _ScenarioCheck:
             rule = "'expect' has the answer of the event before it"
             raise Refused(FaultName.ORDER, f"no event comes before this line: {rule}")
         if isinstance(line, BookSize):
-            self._set_up.name_unit(line.unit)
+            self.set_up.name_unit(line.unit)
         if not isinstance(line, (RowSize, BookSize)):
-            self._set_up.add(line, text)
+            self.set_up.add(line, text)
             return
         sized = line.row, line.unit if isinstance(line, BookSize) else None
-        if sized in self._sizes:
+        if sized in self.sizes:
             twice = "an earlier line sets the size of this row or this book"
             raise Refused(FaultName.ORDER, twice)
-        self._sizes.add(sized)
+        self.sizes[sized] = line.size
 
     def _check_event(self, line: Line, text: Text) -> None:
         if self._finish is not None:
@@ -141,13 +145,13 @@ class _ScenarioCheck:
     def _check_names(self, line: Line) -> None:
         """What an event names is declared, and its request can be made. A DCB may be opened
         later."""
-        area = self._set_up.area(line.area) if isinstance(line, Excp) else None
+        area = self.set_up.area(line.area) if isinstance(line, Excp) else None
         if isinstance(line, Command):
-            self._set_up.name_task(line.task)
+            self.set_up.name_task(line.task)
         if isinstance(line, PurgeTask):
-            self._set_up.name_task(line.other)
+            self.set_up.name_task(line.other)
         if isinstance(line, (CommandOfDcb, LineOfUnit, PurgeTaskAt)):
-            self._set_up.name_unit(line.unit)
+            self.set_up.name_unit(line.unit)
         if isinstance(line, Excp) and area is not None:
             rejection = rejection_of(line, area, area.line)
             if rejection is not None:

@@ -7,7 +7,7 @@ from dataclasses import dataclass, replace
 from typing import TYPE_CHECKING, Callable, Iterator, Optional, Sequence
 
 from ..reporting.look import Look
-from ..reporting.record import Record
+from ..reporting.record import Part, Record
 from .options import MOST, words_of
 
 if TYPE_CHECKING:
@@ -19,10 +19,17 @@ STEPS, ALL_STEPS = "steps", "all-steps"
 
 @dataclass(frozen=True)
 class Form:
-    """A form: the words that ask a program for its record, and what makes its pieces of text."""
+    """A form: the part of a record that it needs, with so many commands of each unit, and what
+    makes its pieces of text."""
 
-    words: Sequence[str]
+    part: Part
     pieces: Callable[[Record], Iterator[str]]
+    most: Optional[int] = None
+
+    @property
+    def words(self) -> Sequence[str]:
+        """The words that ask a program for the record."""
+        return words_of(form=self.part.value, most=self.most)
 
 
 def json_form(title: str, most: Optional[int]) -> Form:
@@ -30,7 +37,7 @@ def json_form(title: str, most: Optional[int]) -> Form:
     from ..reporting.run_json import json_report
 
     # commands that it leaves out touch the media too
-    return Form(words_of(form="steps"), lambda record: json_report(record, title, most or MOST))
+    return Form(Part.STEPS, lambda record: json_report(record, title, most or MOST))
 
 
 def text_form(name: Optional[str], most: Optional[int], look: Look, script: Assembled) -> Form:
@@ -40,14 +47,15 @@ def text_form(name: Optional[str], most: Optional[int], look: Look, script: Asse
     if name == "posts":
         from ..reporting.post_lines import post_lines
 
-        return Form(words_of(form="posts"), lambda record: post_lines(record, look))
+        return Form(Part.POSTS, lambda record: post_lines(record, look))
     from ..reporting.text import text_report
 
     if name not in (STEPS, ALL_STEPS):
-        return Form(words_of(form="events"), lambda record: text_report(record, look))
+        return Form(Part.EVENTS, lambda record: text_report(record, look))
     return Form(
-        words_of(form="steps", most=most),
+        Part.STEPS,
         lambda record: text_report(record, _of_steps(look, name == STEPS, script)),
+        most,
     )
 
 

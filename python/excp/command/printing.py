@@ -24,6 +24,15 @@ class _CutShort(Exception):
     """The program has ended before the end of its record, and has said why."""
 
 
+def print_record(form: Form, lines: Iterable[str]) -> None:
+    """Prints a form of the record that has these lines. Raises ReaderGone, Ended and
+    MemoryError."""
+    try:
+        _print(form, Record(lines), is_open(OUTPUT))
+    except (NotKept, ValueError, LookupError, TypeError) as error:
+        raise _as_end(error) from None
+
+
 class Printing:
     """Prints a form of a record. `is_awaited` says that the program is to reach its end although
     nothing is printed any more.
@@ -53,7 +62,7 @@ class Printing:
         # closes the output when it goes
         lines = io.TextIOWrapper(output, encoding="ascii", newline="\n")
         try:
-            self._print(Record(self._whole(lines)))
+            _print(self._form, Record(self._whole(lines)), self._has_output)
         except _CutShort:
             pass
         except Exception as error:
@@ -72,15 +81,17 @@ class Printing:
         if status < 0 or status == OUT_OF_MEMORY:
             raise _CutShort
 
-    def _print(self, record: Record) -> None:
-        parts = (piece.encode() for piece in self._form.pieces(record))
-        # without a record nothing is printed, whatever the output is
-        for part in parts:
-            if not self._has_output:
-                raise NotWritten
-            write_output(chain([part], parts))
-        if record.what is not None:
-            raise ValueError("lines after the end of a record")
+
+def _print(form: Form, record: Record, has_output: bool) -> None:
+    """Prints a form of a record, on standard output if that is open."""
+    parts = (piece.encode() for piece in form.pieces(record))
+    # without a record nothing is printed, whatever the output is
+    for part in parts:
+        if not has_output:
+            raise NotWritten
+        write_output(chain([part], parts))
+    if record.what is not None:
+        raise ValueError("lines after the end of a record")
 
 
 def _as_end(error: Exception) -> Exception:

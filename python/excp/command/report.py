@@ -78,24 +78,35 @@ def _look(given: argparse.Namespace) -> Look:
 
 
 def _report(given: argparse.Namespace, name: Optional[str]) -> int:
-    from .tool_run import carry_out
     from .tools import Order
     from .whole_script import read_job
 
-    words = words_of(seed=given.seed, channels=given.channels, handlers=given.handlers)
-    order = Order.of(given, "report", words, saves_unread=True)
+    words = words_of(channels=given.channels, handlers=given.handlers)
+    order = Order.of(given, "report", words)
     job = read_job(given.script, order.loads)
-    return carry_out(order.printed_as(_form(given, name, job.script)), job)
+    form = _form(given, name, job.script)
+    if given.seed is not None:
+        from . import seeded
+        from .library import use_library
+
+        use_library(given.program_of)
+        return seeded.carry_out(order, job, given.seed, form)
+    from .tool_run import carry_out
+
+    return carry_out(order.printed_as(form), job)
 
 
 def _form(given: argparse.Namespace, name: Optional[str], script: Assembled) -> Form:
     from .forms import json_form, text_form
-    from .tools import title_of
+    from ..programs.home import LIBRARY
+    from .tools import PROGRAM, title_of
 
     if name == "html":
         from .page_form import page_form
 
-        return page_form(given, "threads" if given.seed is None else f"seed {given.seed}", script)
+        if given.seed is not None:
+            return page_form(given, LIBRARY, f"seed {given.seed}", script)
+        return page_form(given, PROGRAM, "threads", script)
     if name == "json":
         return json_form(title_of(given.script), given.most_steps)
     return text_form(name, given.most_steps, _look(given), script)

@@ -5,16 +5,19 @@ from __future__ import annotations
 import argparse
 import os
 import stat
-from typing import Optional
+from typing import TYPE_CHECKING, Optional
 
-from ..symbols import Assembled
-from .forms import json_form
-from .options import MOST, check_exclusions, number, words_of
+from ..programs.home import LIBRARY
+from .forms import Form, json_form
+from .options import MOST, check_exclusions, number
 from .script_file import add_script
-from .streams import INPUT, STANDARD_INPUT, Ended, opened_script
-from .tool_run import carry_out
+from .streams import INPUT, Ended, opened_script
 from .tools import Order, title_of
 from .unit_files import add_load, add_save
+
+if TYPE_CHECKING:
+    from ..symbols import Assembled
+    from .stepped import Lines
 
 _EXCLUSIONS = {"json": ("trace", "state"), "html": ("json", "trace", "state")}
 
@@ -35,44 +38,56 @@ def run(given: argparse.Namespace) -> int:
     check_exclusions(given, _EXCLUSIONS)
     if given.most_steps is not None and not given.json:
         given.usage_error("--most-steps N needs --json")
-    order = Order.of(given, "step", words_of(trace=given.trace, state=given.state))
-    if given.json:
-        order = order.printed_as(json_form(title_of(given.script), given.most_steps))
+    order = Order.of(given, "step", ())
     if given.script is None:
-        return _step_input(_with_page(order, given))
+        return _step_input(given, order)
     with opened_script(given.script) as script:
         if not stat.S_ISREG(os.fstat(script.fileno()).st_mode):
-            return _step_lines(_with_page(order, given), script.fileno())
+            return _step_lines(given, order, script.fileno())
+    from .stepped import whole_lines
     from .whole_script import read_scenario
 
     scenario = read_scenario(given.script, order.loads)
-    return carry_out(_with_page(order, given, scenario.script), scenario)
+    lines = whole_lines(scenario.script.script)
+    return _step(given, order, lines, scenario.script)
 
 
-def _with_page(
-    order: Order, given: argparse.Namespace, script: Optional[Assembled] = None
-) -> Order:
-    """An order, with a page as its form if that is asked for."""
-    if not given.html:
-        return order
-    # no other form needs to wait for it
-    from .page_form import page_form
-
-    return order.printed_as(page_form(given, "its events", script))
-
-
-def _step_input(order: Order) -> int:
+def _step_input(given: argparse.Namespace, order: Order) -> int:
     try:
         os.fstat(INPUT)
     except OSError:
         raise Ended("script unreadable") from None
-    return _step_lines(order, INPUT)
+    return _step_lines(given, order, INPUT)
 
 
-def _step_lines(order: Order, given: int) -> int:
+def _step_lines(given: argparse.Namespace, order: Order, descriptor: int) -> int:
     """Carries out a scenario whose lines may come one by one, each after the answer to the one
     before."""
-    from .dialog import Dialog
+    from .stepped import lines_as_they_come
 
-    dialog = Dialog(order.script or STANDARD_INPUT, given)
-    return carry_out(order, dialog)
+    return _step(given, order, lines_as_they_come(descriptor), None)
+
+
+def _step(
+    given: argparse.Namespace, order: Order, lines: Lines, script: Optional[Assembled]
+) -> int:
+    from ..stepping.scenario import Wanted
+    from .library import use_library
+    from .stepped import carry_out
+
+    use_library(given.program_of)
+    form = _form(given, script)
+    wanted = Wanted(given.trace, given.state, form is not None, words=lines.is_typed)
+    return carry_out(order, lines, wanted, form)
+
+
+def _form(given: argparse.Namespace, script: Optional[Assembled]) -> Optional[Form]:
+    """The form of the record, if one is asked for."""
+    if given.json:
+        return json_form(title_of(given.script), given.most_steps)
+    if not given.html:
+        return None
+    # no other form needs to wait for it
+    from .page_form import page_form
+
+    return page_form(given, LIBRARY, "its events", script)

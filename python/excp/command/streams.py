@@ -142,6 +142,17 @@ def write_output(parts: Iterable[bytes]) -> None:
         raise NotWritten from None
 
 
+def write_at_once(data: bytes) -> None:
+    """Writes all of some bytes to standard output now. Raises as `write_output`."""
+    try:
+        while data:
+            data = data[os.write(OUTPUT, data) :]
+    except BrokenPipeError:
+        raise ReaderGone from None
+    except OSError:
+        raise NotWritten from None
+
+
 def print_findings(findings: Iterable[Finding], file: Optional[str], stream: int) -> None:
     """Prints findings on standard output or standard error, with colours on a terminal."""
     # all of them or none, if memory runs out

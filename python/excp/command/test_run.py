@@ -9,22 +9,22 @@ from dataclasses import dataclass, replace
 from pathlib import Path
 from typing import BinaryIO, Callable, Optional, Sequence, Tuple
 
-from ..checking import check_scenario, check_script
+from ..checking import check_script
 from ..checking.loaded import NO_IMAGES
+from ..checking.scenario import ScenarioCheck
 from ..files.opening import why_unopened
 from ..findings import Finding, printable_name, printed
 from ..programs.children import ended
 from ..script.reading import Text, lines_of
+from ..stepping.scenario import Scenario, Wanted, on_missed
 from ..symbols import Assembled, assemble, has_symbols
 from ..testing.differences import difference
 from ..testing.found import TestFile
 from ..testing.results import Result, Verdict
-from .handing import name_in_texts
+from .library import use_library
 from .run import in_memory
 from .script_file import worth_printing
 from .streams import REJECTED, Ended, read_script
-from .tool_run import Status
-from .tools import PROGRAM
 from .whole_script import ending_faults
 
 _EXPECT = "expect"
@@ -84,18 +84,11 @@ class Judge:
         lines = lines_of(script.script)
         if not any(Text(line).first == _EXPECT for line in lines):
             return Result(test.name, Verdict.NO_EXPECTATION, why=f"it has no line '{_EXPECT}'")
-        words = ["step", f"title={name_in_texts(test.name)}"]
-        status, _, errors = self._run(PROGRAM, words, script)
-        if status == 0:
-            return Result(test.name, Verdict.PASSED)
-        if status == Status.REFUSED:
-            faults = ending_faults(check_scenario(script.script, NO_IMAGES))
-            fails = _of_faults(test.name, script, faults)
-            if fails is not None:
-                raise fails
-        if status == Status.UNMET:
-            raise _Fails("an expectation is not met", _lines(errors))
-        raise _of_program(PROGRAM, status, errors)
+        use_library(self.program_of)
+        missed = _carried_out(test.name, script)
+        if missed:
+            raise _Fails("an expectation is not met", missed)
+        return Result(test.name, Verdict.PASSED)
 
     def _run(
         self, program: str, words: Sequence[str], script: Assembled
@@ -108,6 +101,25 @@ class Judge:
             except OSError as error:
                 raise _Fails(f"{program} cannot be run: {error.strerror}") from None
             return status, _whole(output), _whole(errors)
+
+
+def _carried_out(name: str, script: Assembled) -> Sequence[str]:
+    """Carries out a scenario. Returns a line for each expectation that is not met. Raises _Fails
+    for a fault."""
+    check, missed = ScenarioCheck(NO_IMAGES), []
+    scenario = Scenario(check, Wanted(), lambda _: None, dict)
+    for number, line in enumerate(script.script.removesuffix(b"\n").split(b"\n"), 1):
+        scenario.read(number, Text(line.decode("latin-1")))
+        if scenario.missed is not None:
+            missed.append(on_missed(f"{printable_name(name)}:{number}:", scenario.missed))
+        if check.findings:
+            break
+    else:
+        scenario.end()
+    fails = _of_faults(name, script, ending_faults(check.findings))
+    if fails is not None:
+        raise fails
+    return missed
 
 
 def failed(name: str, why: str, details: Sequence[str] = ()) -> Result:

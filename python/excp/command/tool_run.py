@@ -17,7 +17,7 @@ from ..files.folder import ScenarioFolder
 from ..files.new_files import NewFiles
 from ..files.refusals import Unwritten
 from ..files.signals import end_if_asked, held_back
-from ..files.targets import TEXT, Output, Targets
+from ..files.targets import Output, Targets
 from ..images.measured import measured
 from ..images.reading import Unreadable
 from ..images.unpacking import plain_file
@@ -28,9 +28,10 @@ from .streams import (
     ERRORS, REJECTED, Ended, ReaderGone, error_of_program, name_of, of_file, print_findings,
     say_removed,
 )
-from .tools import PROGRAM, Order, Source
+from .tools import PROGRAM, Order
 from .unit_files import load_images
 from .units import check_fit
+from .whole_script import WholeScript
 
 
 class Status(IntEnum):
@@ -42,18 +43,15 @@ class Status(IntEnum):
     NO_IMAGE = 8
     # a unit of a file is not declared, or no model of disks is as one
     UNFIT = 9
-    # an expectation of a scenario is not met; all else is done
-    UNMET = 10
     # nothing reads the output any more
     READER_GONE = 11
 
 
-# The ends of `outcomes` after a search, and all ends after which the new files are whole.
-_SEARCHED = (0, 5, 6)
-_GOOD = (*_SEARCHED, Status.UNMET)
+# The ends after which the new files are whole: two of them come after a search alone.
+_GOOD = (0, 5, 6)
 
 
-def carry_out(order: Order, source: Source) -> int:
+def carry_out(order: Order, source: WholeScript) -> int:
     """Runs the program on a script. Returns the exit status. Raises Ended, and NotBuilt."""
     try:
         with contextlib.ExitStack() as stack:
@@ -68,7 +66,7 @@ def carry_out(order: Order, source: Source) -> int:
 class _Run:
     """A run of the program: its words so far, and the numbers of the files that it is handed."""
 
-    def __init__(self, order: Order, source: Source, stack: contextlib.ExitStack) -> None:
+    def __init__(self, order: Order, source: WholeScript, stack: contextlib.ExitStack) -> None:
         self._order, self._source, self._stack = order, source, stack
         self._words: List[str] = list(order.words)
         self._files: List[int] = []
@@ -101,7 +99,7 @@ class _Run:
             scenarios = self._stack.enter_context(tempfile.TemporaryFile())
             self._hand("scenarios", scenarios.fileno(), name)
             status = self._ended(targets, mask)
-            if status in _SEARCHED:
+            if status in _GOOD:
                 scenarios.seek(0)
                 for removed in folder.write_all(scenarios):
                     say_removed(*removed)
@@ -119,8 +117,8 @@ class _Run:
                 self._hand(word, replacement.descriptor, output.name)
             status, failure = self._ended_and_printed(mask)
             end_if_asked()
-            self._source.ended()
-            if status in _GOOD and self._is_kept_after(failure):
+            # the media are saved although nothing reads the report
+            if status in _GOOD and (failure is None or isinstance(failure, ReaderGone)):
                 new.finish(self._known)
             if failure is not None and status in (*_GOOD, Status.READER_GONE):
                 raise failure
@@ -133,37 +131,25 @@ class _Run:
         form, printing = self._order.form, None
         if form is not None:
             has_new_files = next(self._outputs(), None) is not None
-            printing = Printing(form, is_awaited=self._order.saves_unread and has_new_files)
+            printing = Printing(form, is_awaited=has_new_files)
         with self._source.opened() as given:
-            begun = self._source.begun
-            status = ended(
-                self._words, given, files=self._files, mask=mask, begun=begun, reader=printing
-            )
+            status = ended(self._words, given, files=self._files, mask=mask, reader=printing)
         return status, printing.failure if printing is not None else None
-
-    def _is_kept_after(self, failure: Optional[Exception]) -> bool:
-        """Whether what is saved is kept if this has kept the report from being printed."""
-        if isinstance(failure, ReaderGone):
-            return self._order.saves_unread
-        return failure is None
 
     def _outputs(self) -> Iterator[Tuple[str, Output]]:
         """The files that the program fills, each with the word that hands it over."""
-        if self._order.schedule is not None:
-            yield "schedule", Output(self._order.schedule, TEXT)
         for unit, name in self._order.saves.items():
             yield f"save={unit}", self._known(Output(name, None, unit))
 
     def _known(self, output: Output) -> Output:
-        """An output with what is saved, if the lines so far declare its unit. A dialog shows them
-        as it goes on; of a unit that none declares the program ends."""
+        """An output with what is saved, if a line declares its unit; else the program ends."""
         units = self._source.units() or ()
         if output.content is not None or output.unit is None or output.unit >= len(units):
             return output
         return replace(output, content=units[output.unit].content)
 
 
-def _said(order: Order, source: Source, status: int) -> int:
+def _said(order: Order, source: WholeScript, status: int) -> int:
     """Says what the program has left to be said. Returns the exit status of the command."""
     if status == Status.REFUSED:
         findings = source.findings(load_images(name_of(order.script), order.loads))
@@ -180,4 +166,4 @@ def _said(order: Order, source: Source, status: int) -> int:
         raise error_of_program("the program finds a file for no unit")
     if status == Status.READER_GONE:
         return 0
-    return REJECTED if status == Status.UNMET else status
+    return status

@@ -1,60 +1,31 @@
-"""What is asked of excp_tools, which carries out `report`, `step` and `outcomes`, and on what
-script."""
+"""What is asked of the program excp_tools or of the library."""
 
 from __future__ import annotations
 
 import argparse
 from dataclasses import dataclass, replace
 from pathlib import Path
-from typing import BinaryIO, Callable, ContextManager, Mapping, Optional, Protocol, Sequence, Union
+from typing import Callable, Mapping, Optional, Sequence
 
-from ..checking.loaded import Images
 from ..files.targets import Targets, UnitFile
-from ..findings import Finding
 from .forms import Form
 from .handing import name_in_texts
 from .options import unit_files
 from .streams import name_of
-from .units import UnitKind
 
 PROGRAM = "excp_tools"
 
 
-class Source(Protocol):
-    """A script for the program."""
-
-    @property
-    def file(self) -> Optional[str]:
-        """The name of its file; None for standard input."""
-
-    def units(self) -> Optional[Sequence[UnitKind]]:
-        """Its units, if they are known."""
-
-    def opened(self) -> ContextManager[Union[int, BinaryIO]]:
-        """What the program reads."""
-
-    def begun(self) -> None:
-        """The program has begun to read."""
-
-    def ended(self) -> None:
-        """The program has ended. Raises Ended if the script could not be read to its end."""
-
-    def findings(self, images: Images) -> Sequence[Finding]:
-        """What is printed of it if the program has refused it."""
-
-
 @dataclass(frozen=True)
 class Order:
-    """What is asked of the program: its words but those of files, the files of units, that of the
-    schedule, the folder of scenarios, and which build runs.
+    """What is asked for: the words for the program but those of files, the files of units, that of
+    the schedule, the folder of scenarios, and which build runs.
 
-    `form` is how its record is printed; without one the program prints by itself. `saves_unread`
-    says that what is saved is kept, although nothing reads the output.
+    `form` is how its record is printed; without one the program prints by itself.
     """
 
     words: Sequence[str]
     form: Optional[Form]
-    saves_unread: bool
     program_of: Callable[[str], Path]
     loads: Mapping[int, str]
     saves: Mapping[int, str]
@@ -64,19 +35,11 @@ class Order:
     folder: Optional[str]
 
     @classmethod
-    def of(
-        cls,
-        given: argparse.Namespace,
-        word: str,
-        words: Sequence[str],
-        saves_unread: bool = False,
-    ) -> Order:
+    def of(cls, given: argparse.Namespace, word: str, words: Sequence[str]) -> Order:
         """The order of a word with these options. Raises Ended."""
-        title = f"title={title_of(given.script)}"
         return cls(
-            words=[word, title, *words],
+            words=[word, *words],
             form=None,
-            saves_unread=saves_unread,
             program_of=given.program_of,
             loads=unit_files(given, "load"),
             saves=unit_files(given, "save") if "save" in given else {},

@@ -11,6 +11,7 @@ from ..findings import printable_name
 from ..images.ckd import model_of, on_no_model
 from ..script.grammar import COMMAND_WORDS, EVENT_WORDS, Disk
 from ..script.reading import Refused, Text, lines_of, read_script_line
+from ..script.set_up import Unit
 from .streams import Ended
 
 # The first words of lines after which a scenario declares nothing.
@@ -29,6 +30,11 @@ class UnitKind(NamedTuple):
     def content(self) -> targets.Content:
         """What is saved of it."""
         return _CONTENTS[self.kind]
+
+
+def kinds_of(units: Sequence[Unit]) -> Sequence[UnitKind]:
+    """The kinds of units that are declared."""
+    return [UnitKind(it.device, it.says if isinstance(it.says, Disk) else None) for it in units]
 
 
 def units_of(script: bytes) -> Sequence[UnitKind]:

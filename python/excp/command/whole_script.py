@@ -15,7 +15,8 @@ from .streams import ERRORS, name_of
 from .unit_files import load_images
 from .units import UnitKind, units_of
 
-_OF_UNITS = (FaultName.MEDIUM, FaultName.EXTENT)
+# The faults of units, which are found together after all lines of the set-up.
+OF_UNITS = (FaultName.MEDIUM, FaultName.EXTENT)
 
 Check = Callable[[Assembled, Images], Sequence[Finding]]
 
@@ -36,12 +37,6 @@ class WholeScript:
     def opened(self) -> BinaryIO:
         """A file with the plain script."""
         return in_memory(self.script.script)
-
-    def begun(self) -> None:
-        """The program has begun to read."""
-
-    def ended(self) -> None:
-        """The program has ended."""
 
     def findings(self, images: Images) -> Sequence[Finding]:
         """What is printed of it if a program has rejected it."""
@@ -67,8 +62,8 @@ def ending_faults(findings: Sequence[Finding]) -> Sequence[Finding]:
     """The fault that ends a scenario: the first one of a line, or all of its units, which are found
     together."""
     faults = [it for it in findings if it.is_fault]
-    if faults[:1] and faults[0].name in _OF_UNITS:
-        return [it for it in faults if it.name in _OF_UNITS]
+    if faults[:1] and faults[0].name in OF_UNITS:
+        return [it for it in faults if it.name in OF_UNITS]
     return faults[:1]
 
 

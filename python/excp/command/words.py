@@ -34,6 +34,7 @@ WORDS: Mapping[str, Word] = {
     "assemble": Word("assemble", "Prints the plain script of one with symbolic areas"),
     "check": Word("check", "Prints every fault of a script, and warnings; runs nothing"),
     "convert": Word("convert", "Prints an image as lines of a script, or makes one of such lines"),
+    "debug": Word("debug", "Steps through the channel programs of a job, forward and back"),
     "describe": Word("describe", "Prints what images of tapes and disks hold"),
     "outcomes": Word("outcomes", "Prints the posts that each request can have, over all orders"),
     "report": Word("report", "Prints the posts of a script, and what the run left behind"),

@@ -40,13 +40,11 @@ def ended(
     stdout: File = None,
     files: Sequence[int] = (),
     mask: Optional[AbstractSet[int]] = None,
-    begun: Callable[[], None] = lambda: None,
     reader: Optional[Reader] = None,
 ) -> int:
     """The exit status of a program, once it has ended and its reader, if it has one, is over. After
     a signal that ends this process, ends the program, and then this process by that signal. The
-    program has these files, and this mask of signals, by default that of its caller. `begun` is
-    called when it has begun."""
+    program has these files, and this mask of signals, by default that of its caller."""
     awaited = ending()
     # one whose parent ignores it would not be sent
     signal.signal(signal.SIGCHLD, signal.SIG_DFL)
@@ -54,7 +52,6 @@ def ended(
     try:
         standard = (stdin, stdout if reader is None else subprocess.PIPE, stderr)
         child = _started(words, standard, files, before if mask is None else mask)
-        begun()
         asked = _end_of(child, awaited, reader)
     finally:
         signal.pthread_sigmask(signal.SIG_SETMASK, before)

@@ -9,7 +9,8 @@ from pathlib import Path
 from typing import Callable, Optional
 
 from .building import NotBuilt, build
-from .home import Home
+from .home import LIBRARY, Home
+from .library_choice import choose_library
 from .proof import PROOF, UNPROVED, newer_source, record_of, why_not
 from .telling import note
 
@@ -41,8 +42,10 @@ _MISSING = (
 def choose(
     home: Home, program: str, mode: Mode, before_build: Callable[[], None] = lambda: None
 ) -> Path:
-    """The file of the build of a program that runs. Calls `before_build` before it builds one, if
-    need be, which may raise what ends that. Raises NotBuilt."""
+    """The file of the build of a program that runs, or of the library. Calls `before_build` before
+    it builds a program, if need be, which may raise what ends that. Raises NotBuilt."""
+    if program == LIBRARY:
+        return choose_library(home, needs_proof=mode is Mode.PROVED)
     if home.top is None and not home.is_installed(program):
         raise NotBuilt(_MISSING.format(program))
     if mode is Mode.TRIED:

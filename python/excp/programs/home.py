@@ -11,6 +11,7 @@ from typing import Optional
 _FOLDER = Path(__file__).resolve().parents[3]
 
 PROGRAMS = ("excp_job", "excp_tools")
+LIBRARY = "libexcp.so"
 
 
 @dataclass(frozen=True)

@@ -10,7 +10,8 @@ from typing import Dict
 
 from .building import NotBuilt
 from .choice import unproved
-from .home import PROGRAMS, Home
+from .home import LIBRARY, PROGRAMS, Home
+from .library_choice import built_library
 from .proof import PROOF, UNPROVED, why_not
 from .telling import note
 from .version import unproved_record
@@ -29,6 +30,7 @@ def install(home: Home, prefix: Path, takes_unproved: bool = False) -> None:
         record = {} if file.parent == home.programs else unproved_record(home.top)
         _install_program(program, file, places["lib/excp"], record)
         _link(f"../lib/excp/{program}", places["bin"] / program)
+    _install_library(home, places["lib/excp"], takes_unproved)
     _install_package(home.top, places["bin"], places["lib/excp"])
     _copy(home.top / "docs/excp_job.1", places["share/man/man1"])
     _link("excp_job.1", places["share/man/man1"] / "excp.1")
@@ -61,6 +63,14 @@ def _install_program(program: str, file: Path, own: Path, record: Dict[str, str]
         (own / f"{program}{UNPROVED}").write_text(lines, encoding="utf-8")
     else:
         _copy(file.with_name(f"{program}{PROOF}"), own)
+
+
+def _install_library(home: Home, own: Path, takes_unproved: bool) -> None:
+    """Copies the library, if it is built."""
+    (own / LIBRARY).unlink(missing_ok=True)
+    library = built_library(home, takes_unproved)
+    if library is not None:
+        shutil.copy(library, own)
 
 
 def _install_package(top: Path, commands: Path, own: Path) -> None:

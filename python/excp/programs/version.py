@@ -33,6 +33,13 @@ def build_of(file: Path) -> Build:
     return Build(record.get("version", _UNKNOWN), is_proved)
 
 
+def library_build() -> Build:
+    """What the library is that is loaded."""
+    from .. import library
+
+    return Build(library.version(), library.is_proved())
+
+
 def versions(home: Home) -> Iterator[str]:
     """The lines on all programs. Says of each why it is not proved, if it is not."""
     for program in PROGRAMS:

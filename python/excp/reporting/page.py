@@ -25,8 +25,8 @@ _VIEWER = Path(__file__).resolve().parents[1] / "viewer"
 STYLES = "page lanes programs panel media paper".split()
 SCRIPTS = (
     "names dom model job waits layout compact signs legend density overview bars drawing lanes "
-    "moving panel attempts steps places programs pane media changes disk tape paper ends list "
-    "units posts filter print page"
+    "moving panel attempts steps places states programs pane media changes disk tape paper ends "
+    "list units posts filter print page"
 ).split()
 
 # A part of the page that every run has.
@@ -39,11 +39,13 @@ _COMMENT = re.compile(r"^[ \t]*/\*.*?\*/[ \t]*\n", re.M | re.S)
 @dataclass(frozen=True)
 class About:
     """What a page says beside the record of its run: its title, what is at its foot, and the JSON
-    of the script in pieces. The last two are asked for after the run."""
+    of the script and of the states of requests in pieces. All but the title are asked for after the
+    run."""
 
     title: str
     foot: Callable[[], str]
     job: Callable[[], Iterable[str]]
+    states: Callable[[], Iterable[str]]
 
 
 def page_report(record: Record, about: About, most: int) -> Iterator[str]:
@@ -59,6 +61,7 @@ def page_report(record: Record, about: About, most: int) -> Iterator[str]:
         "posts": run.posts,
         "rest": lambda: map(_without_tags, run.back()),
         "job": lambda: map(_without_tags, about.job()),
+        "states": lambda: map(_without_tags, about.states()),
         "foot": lambda: [_escaped(about.foot())],
     }
     for number, piece in enumerate(_template()):

@@ -5,9 +5,19 @@ from __future__ import annotations
 
 import json
 import re
+from enum import Enum
 from typing import Any, Dict, Iterable, Iterator, Optional
 
 Members = Dict[str, Any]
+
+
+class Part(Enum):
+    """How much of a record is wanted: the posts alone, all but the commands, or all."""
+
+    POSTS = "posts"
+    EVENTS = "events"
+    STEPS = "steps"
+
 
 # What the events of a unit are, and which of them a task makes.
 CONTROLS = frozenset(("purge", "closed", "reset"))

@@ -57,6 +57,20 @@ class AreaSource:
         labels = [(it.address, it.length or 0, name) for name, it in self._layout.labels.items()]
         return sorted(reversed(labels), key=lambda it: it[0])
 
+    def labels(self) -> Mapping[str, int]:
+        """The labels with their addresses, in the order in which they are defined."""
+        return {name: it.address for name, it in self._layout.labels.items()}
+
+    def length(self, label: str) -> Optional[int]:
+        """The number of bytes of the statement with a label; none if it is alone on its line."""
+        found = self._layout.labels.get(label)
+        return None if found is None else found.length
+
+    def statements(self) -> Mapping[int, int]:
+        """The address of the statement of each line, in the order of the lines; none of a plain
+        area."""
+        return self._layout.statements
+
     def line(self, address: int) -> Optional[int]:
         """The line of the statement that has set the byte at an address, if one has."""
         offset, setters = address - self.base, self._layout.setters

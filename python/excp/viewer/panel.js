@@ -38,6 +38,7 @@ function requestPanel(model, request) {
     content: [
       part("Its events", lifeOf(request, kind)), request.end ? part("CSW and sense", cswOf(request)) : null,
       el("div", { class: "program" }, paneOf(model, request, attempts), stepsOfAttempts(model, request, attempts)),
+      statesOf(request),
       part("IOB as posted", post ? iobOf(post) : el("p", { class: "dim" }, noPost)),
       request.code === "42" ? part("Extents of its DCB", extentsOf(model, request)) : null,
       post?.shown ? part(`${counted(post.shown.length / 2, "byte")} shown`, hexOfBytes(post.shown, false, SHOWN_ROW)) : null,

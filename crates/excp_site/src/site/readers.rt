@@ -1,8 +1,8 @@
 //! What a site tells of its units. Each reader copies out, and allocates nothing.
 
-ghost use Rattle.std.specs.Prelude.{◌≡◌, ◌<◌, IfErr, IfOk, OnOk, length};
+ghost use Rattle.std.specs.Prelude.{◌≡◌, ◌<◌, IfErr, IfOk, OnOk, Some, length};
 ghost use Rattle.unit_world.specs.Sites.{OnPart};
-ghost use Rattle.excp_site.specs.Looks.{DcbLookRefused, LookRefused, ShowsDcb, ShowsUnit, WaitingRefused, WaitsAt, printed_by};
+ghost use Rattle.excp_site.specs.Looks.{DcbLookRefused, EntryRefused, LookRefused, ShowsDcb, ShowsUnit, TraceAt, WaitingRefused, WaitsAt, oldest_first, printed_by};
 
 use crate::refusal::Refusal;
 use crate::site::Site;
@@ -10,7 +10,7 @@ use crate::state::{DcbLook, UnitState};
 use any_device::AnyDevice;
 use device_port::Device;
 use request_piece::Name;
-use unit_book::DcbState;
+use unit_book::{DcbState, Entry, UnitBook};
 
 impl Site {
     /// A unit as it is.
@@ -71,6 +71,28 @@ impl Site {
             None => Err(Refusal::NothingThere),
         }
     }
+
+    /// The entry at a place of the trace of a unit, counted from 0, the oldest first. Those before its last checkpoint are gone.
+    ///
+    /// Errors: `NoUnit`, `NothingThere`.
+    pub fn entry(&self, unit: u16, place: u32) -> Result<&Entry, Refusal>
+        ensures unit { OnOk result (unit < length self.now.plain.units) }
+        ensures ok { IfOk result (λ entry. OnPart self.now.plain unit (λ p. TraceAt p place (Some entry.now))) }
+        ensures refused { IfErr result (EntryRefused self.now.plain unit place) }
+    {
+        self.has_unit(unit)?;
+        match entries(self.plain.book(unit)).get(place as usize) {
+            Some(entry) => Ok(entry),
+            None => Err(Refusal::NothingThere),
+        }
+    }
+}
+
+/// The entries of a book, the oldest first.
+fn entries(book: &UnitBook<AnyDevice>) -> &[Entry]
+    ensures { result.now ≡ oldest_first book.now }
+{
+    book.trace()
 }
 
 /// How many lines a printer printed; 0 for other devices.

@@ -9,6 +9,7 @@ use Rattle.job_run.specs.Ending.{EndsParsed, IsFaultlessWith}
 use Rattle.job_run.specs.Rooms.{room_of_a_unit}
 use Rattle.job_run.proofs.Beginnings.{begun_with}
 use Rattle.job_run.proofs.Ends.{ends_with, late_result, not_mounted}
+use Rattle.job_run.proofs.Serial.{leaves_one_at_a_time}
 use Rattle.job_run.proofs.run.run_parsed.Goals as goal
 
 pub returns-in_err-rows-clause-fault : goal.returns-in_err-rows-clause-fault
@@ -30,3 +31,8 @@ returns-clause-fault g c =
     let runs : IsFaultlessWith c.args.given.items (said c.args.script.now) =
     (room_of_a_unit c.args.script.now, all_without_spare c.in_ok-rows.books, c.in_ok-rows.ensures.exact) in
     late_result c.run_on.result c.args.given.items (said c.args.script.now) runs c.run_on.ensures.fault
+
+pub returns-clause-serial : goal.returns-clause-serial
+returns-clause-serial g c =
+    leaves_one_at_a_time c.run_on.result c.args.given.items (said c.args.script.now) (returns-clause-began g c) c.run_on.ensures.ran
+    c.run_on.ensures.text

@@ -8,6 +8,7 @@ use Rattle.post_lines.specs.Lines.{count_text}
 use Rattle.job_run.specs.Printing.{ended_slots, tasks_text}
 use Rattle.job_run.specs.declared.task_end.TaskEnd.{TaskEnd}
 use Rattle.job_run.proofs.Prints.{ends_writing, prints, prints_part}
+use Rattle.job_run.proofs.Serial.{writes_one_at_a_time}
 use Rattle.job_run.proofs.run.run_script.Goals as goal
 
 pub returns-in-Ok-clause-fault : goal.returns-in-Ok-clause-fault
@@ -32,3 +33,6 @@ returns-in-Ok-clause-printed g c =
     prints _ _ _ _ _ c.in-Ok.script c.in-Ok.run'.report.books _ commands c.in-Ok.ensures.run
     (ap (λ (l : List (TaskEnd (Unit {0}))). tasks_text 0 (map ended_slots l)) c.deref-in-Ok.ensures.value ∙ c.in-Ok.ensures.text)
     c.deref.ensures.value written) c.write.ensures.text
+
+pub returns-in-Ok-clause-serial : goal.returns-in-Ok-clause-serial
+returns-in-Ok-clause-serial g c = on_ok_weaker c.write.result writes_one_at_a_time (returns-in-Ok-clause-printed g c)

@@ -1,0 +1,91 @@
+"""Which library carries out scenarios and schedules: the one that is named, the one that is
+installed, or that of the repository, which is built with nothing proved if need be."""
+
+from __future__ import annotations
+
+import os
+import shutil
+import subprocess
+import sys
+from pathlib import Path
+from typing import Optional
+
+from .building import NotBuilt
+from .children import ended
+from .home import LIBRARY, Home
+from .proof import newer_source
+from .telling import note
+
+# The name in the environment of the file that has the library, if that is named.
+PLACE = "EXCP_LIBRARY"
+
+_BUILDS = (
+    "there is no library of these sources: builds it unproved, in two minutes or so; "
+    "tools/library.py proves it"
+)
+_MISSING = (
+    f"no {LIBRARY} is installed with this command: build it by tools/library.py of the repository, "
+    f"before ./excp --install PREFIX, or let {PLACE} name it"
+)
+_NOT_PROVED = "the library has not been proved of these sources: tools/library.py proves it"
+
+# What else the library is built of, beside crates.
+_IN_C = "excp.c", "excp.h"
+
+
+def choose_library(home: Home, needs_proof: bool) -> Path:
+    """The file of the library. Raises NotBuilt."""
+    named = os.environ.get(PLACE)
+    if named:
+        return Path(named)
+    if home.top is None:
+        if not home.is_installed(LIBRARY):
+            raise NotBuilt(_MISSING)
+        return home.programs / LIBRARY
+    file = library_of(home.top)
+    is_current = _is_current(home, file)
+    if needs_proof and not (is_current and _is_proved(file)):
+        raise NotBuilt(_NOT_PROVED)
+    if not is_current:
+        _build(home.top)
+    return file
+
+
+def built_library(home: Home, takes_unproved: bool) -> Optional[Path]:
+    """The library of the repository if it was built of the sources as they are, and is proved,
+    unless it need not be."""
+    if home.top is None:
+        return None
+    file = library_of(home.top)
+    is_right = _is_current(home, file) and (takes_unproved or _is_proved(file))
+    return file if is_right else None
+
+
+def library_of(top: Path) -> Path:
+    """The library that is built in a repository."""
+    return top / "out" / "library" / LIBRARY
+
+
+def _is_current(home: Home, file: Path) -> bool:
+    """Whether no source is newer than the library."""
+    crates = file.with_name(f"{LIBRARY}.crates")
+    if home.top is None or not file.is_file() or not crates.is_file():
+        return False
+    time = crates.stat().st_mtime_ns
+    if any((home.top / "c" / it).stat().st_mtime_ns > time for it in _IN_C):
+        return False
+    return newer_source(home, crates, crates.read_text("utf-8")) is None
+
+
+def _is_proved(file: Path) -> bool:
+    return file.with_name(f"{LIBRARY}.proved").is_file()
+
+
+def _build(top: Path) -> None:
+    if shutil.which("rt") is None:
+        raise NotBuilt("rt, the command of the Rattle kit, is not on the path")
+    note(_BUILDS)
+    words = [sys.executable, str(top / "tools" / "library.py"), "--unproved", "--quiet"]
+    status = ended(words, subprocess.DEVNULL)
+    if status:
+        raise NotBuilt(status=status)
