@@ -97,8 +97,9 @@ abbrev pub after_ccw : Link → Fetched → Fetched
 after_ccw link (Whole links fetches) = Whole (link ∷ links) fetches
 after_ccw link (Broken links refusal) = Broken (link ∷ links) refusal
 
--- what a fetch at an address, which is refused by this rule if it is, adds to `rest`, which is what comes from a next
--- address on
+-- THE CHAIN FROM ONE FETCH ON, at this address: a refused fetch breaks it by this rule, a transfer leads to its address,
+-- a CCW that chains data stands before what is fetched 8 bytes later, and a last CCW ends it. `rest` gives the chain
+-- from a next fetch on: whether that may be a transfer, its place in the chain and its address
 abbrev pub chain_by : Fetch → Rule → ℕ → ℕ → ℕ → (Bool → ℕ → ℕ → Fetched) → Fetched
 chain_by Refused rule at place fetches rest = broken_at at rule
 chain_by (Transfer to) rule at place fetches rest = rest false place to

@@ -34,7 +34,8 @@ ending (l ∷ k ∷ ls) n =
     if nat_lt n l.ccw.count then record { link = l; residual = l.ccw.count - n } else ending (k ∷ ls) (n - l.ccw.count)
 
 -- INCORRECT LENGTH is to be shown (chapter 16, "Incorrect Length"): the program counts other bytes from the first CCW
--- on than the device wants, and the CCW where the command ended chains data or does not suppress it
+-- on than the device wants, and the CCW where the command ended chains data or does not suppress it. A command that
+-- moves no bytes shows it if its CCW chains data
 abbrev pub shows_length : Flow → Link → ℕ → ℕ → Link → Bool
 shows_length NoFlow first counted want ended = chains_data first.ccw
 shows_length Out first counted want ended = not (want == counted) && (chains_data ended.ccw || not (suppresses_length ended.ccw))

@@ -15,7 +15,7 @@ use Rattle.unit_book.specs.Posts.{posted}
 use Rattle.unit_book.specs.Trace.{arrivals, is_opening}
 use Rattle.unit_book.proofs.WorldTraces.{opened-only}
 use Rattle.fifo_row.specs.Ends.{Sending, Taking}
-use Rattle.fifo_row.specs.Lists.{of}
+use Rattle.fifo_row.specs.Lists.{of_sender}
 use Rattle.excp_system.specs.declared.item.Notice.{Notice}
 use Rattle.excp_system.specs.Sites.{SiteRows, intake_rows, post_rows, notice_rows, for_task, taker_of, end_of}
 use Rattle.excp_system.specs.declared.control.Control.{Control}
@@ -124,7 +124,7 @@ module _ {D : Type 0} (meaning : Meaning D) (s : SiteRows) (unit number : ℕ) (
         back_is = sym same;
         count = ap (λ (f : FanState PostedState). length f.sent) back_is ∙ length-replicate s.tasks [];
         sent = λ t lt. ap (λ (f : FanState PostedState). sent_to f t) back_is
-            ∙ (index_replicate s.tasks t [] ∙ ap (of for_task t) (sym gave));
+            ∙ (index_replicate s.tasks t [] ∙ ap (of_sender for_task t) (sym gave));
         notice_is = notice_is ∙ (λ i. end_of (notice_rows s) (m i) b.isc (sym (ap (λ (e : Sending Notice). e.sent) notice_is) i));
         of_unit = subst (AreOf s number) (sym none) tt;
       }

@@ -18,7 +18,7 @@ use Rattle.unit_book.proofs.WorldBooks.{Keeps, Sound, keeps-same}
 use Rattle.unit_book.proofs.Facts.{Each-behind}
 use Rattle.unit_book.proofs.Kept.{Inherits, either_way, given-keeps, out-of}
 use Rattle.fifo_row.specs.Ends.{Sending, Taking}
-use Rattle.fifo_row.specs.Lists.{of}
+use Rattle.fifo_row.specs.Lists.{of_sender}
 use Rattle.fifo_row.proofs.Filters.{of-snoc_same, of-snoc_other}
 use Rattle.excp_system.specs.declared.item.Notice.{Notice}
 use Rattle.excp_system.specs.Sites.{SiteRows, intake_rows, notice_rows, for_task, taker_of, end_of}
@@ -53,7 +53,7 @@ module _ {D : Type 0} (meaning : Meaning D) where
           intake_is = is.intake_is ∙ ap (taker_of (intake_rows s) s.tasks unit) (sym a);
           back_is = is.back_is;
           count = is.count;
-          sent = λ task lt. is.sent task lt ∙ ap (of for_task task) (sym (given-keeps meaning all k));
+          sent = λ task lt. is.sent task lt ∙ ap (of_sender for_task task) (sym (given-keeps meaning all k));
           notice_is = is.notice_is ∙ ap (λ isc. end_of (notice_rows s) unit isc notice.sent) (sym k.isc);
           of_unit = subst (AreOf s unit) (sym a) is.of_unit;
         }
@@ -77,7 +77,7 @@ module _ {D : Type 0} (meaning : Meaning D) where
           ∙ ap (taker_of (intake_rows s) s.tasks unit) (sym k.arrived);
       back_is = is.back_is;
       count = is.count;
-      sent = λ task lt. is.sent task lt ∙ ap (of for_task task) (sym (given-keeps meaning all k));
+      sent = λ task lt. is.sent task lt ∙ ap (of_sender for_task task) (sym (given-keeps meaning all k));
       notice_is = is.notice_is ∙ ap (λ isc. end_of (notice_rows s) unit isc notice.sent) (sym k.isc);
       of_unit = subst (AreOf s unit) (sym k.arrived) (Each-behind _ (arrivals old.trace) r is.of_unit (lt, mine));
     }
@@ -109,9 +109,9 @@ module _ {D : Type 0} (meaning : Meaning D) where
               ∙ get_or-set_same back.sent t more [] (omega (arith, is.count, lt))
               ∙ ap (λ l. l ++ value ∷ []) (is.sent t lt)
               ∙ sym (of-snoc_same for_task t value (given meaning old) refl)
-              ∙ ap (λ k. of for_task k (given meaning old ++ value ∷ [])) e ∙ ap (of for_task task) (sym gave))
+              ∙ ap (λ k. of_sender for_task k (given meaning old ++ value ∷ [])) e ∙ ap (of_sender for_task task) (sym gave))
               (λ e. get_or-set_other back.sent t task more [] (λ q. e (sym q)) ∙ is.sent task here
-              ∙ sym (of-snoc_other for_task task value (given meaning old) e) ∙ ap (of for_task task) (sym gave));
+              ∙ sym (of-snoc_other for_task task value (given meaning old) e) ∙ ap (of_sender for_task task) (sym gave));
           notice_is = is.notice_is ∙ ap (λ (b : Book D). end_of (notice_rows s) unit b.isc notice.sent) (sym same);
           of_unit = subst (λ (b : Book D). AreOf s unit (arrivals b.trace)) (sym same) is.of_unit;
         }

@@ -4,7 +4,7 @@ use Rattle.std.specs.List.{All}
 use Rattle.device_port.specs.Meaning.{Meaning}
 use Rattle.unit_book.specs.Book.{given}
 use Rattle.unit_book.specs.Trace.{arrived_of}
-use Rattle.fifo_row.specs.Lists.{of}
+use Rattle.fifo_row.specs.Lists.{of_sender}
 use Rattle.excp_system.specs.Sites.{unit_of, for_task}
 use Rattle.excp_system.specs.States.{Locked, TaskState, sent_by}
 
@@ -18,7 +18,7 @@ module _ {D : Type 0} (meaning : Meaning D) where
   -- as many values of the unit as it sent
   pub record IsTaken (unit : Locked D) (task : TaskState) : Type 0 where
     pub requests : arrived_of task.number unit.book.trace ≡ length (sent_by task unit.unit)
-    pub values : length (of unit_of unit.unit task.got) ≡ length (of for_task task.number (given meaning unit.book))
+    pub values : length (of_sender unit_of unit.unit task.got) ≡ length (of_sender for_task task.number (given meaning unit.book))
 
   -- nothing is out at the unit, and nothing is on its way between it and the tasks
   pub record IsDrained (tasks : List TaskState) (unit : Locked D) : Type 0 where

@@ -11,7 +11,7 @@ use Rattle.unit_book.specs.Posts.{posted}
 use Rattle.unit_book.specs.Trace.{arrivals}
 use Rattle.fifo_row.specs.declared.view.View.{View}
 use Rattle.fifo_row.specs.Flows.{IsTaker}
-use Rattle.fifo_row.specs.Lists.{of, Met}
+use Rattle.fifo_row.specs.Lists.{of_sender, Met}
 use Rattle.excp_system.specs.Sites.{RequestFact, NoFact, task_of, unit_of, for_task}
 
 module _ {D : Type 0} (meaning : Meaning D) where
@@ -20,16 +20,16 @@ module _ {D : Type 0} (meaning : Meaning D) where
   abbrev pub IntakeFlows : Type 0
   IntakeFlows = (b : Book D) (items : List Piece) (views : List (View Piece)) (v w : View Piece) (pass : ℕ) →
       IsTaker task_of RequestFact items views v → get_elem? views pass ≡ some w → w.sends ≡ true → v.taken ≡ arrivals b.trace →
-      of task_of w.number (arrivals b.trace ++ items) ≡ w.sent
+      of_sender task_of w.number (arrivals b.trace ++ items) ≡ w.sent
 
   abbrev pub MetIntakeFlows : Type 0
   MetIntakeFlows = (b : Book D) (items : List Piece) (views : List (View Piece)) (v : View Piece) (task : ℕ) (sent : List Piece) →
       IsTaker task_of RequestFact items views v → Met v.met task sent → v.taken ≡ arrivals b.trace →
-      of task_of task (arrivals b.trace ++ items) ≡ sent
+      of_sender task_of task (arrivals b.trace ++ items) ≡ sent
 
   -- the unit has sent this of a task's values: what its book gave of them; and the book is sound
   pub record HasSent (b : Book D) (task : ℕ) (sent : List PostedState) : Type 0 where
-    pub sent_is : sent ≡ of for_task task (given meaning b)
+    pub sent_is : sent ≡ of_sender for_task task (given meaning b)
     pub given_is : given meaning b ++ b.out ≡ posted meaning b.mounted b.trace
 
   -- then what was posted of the task is what it collected of the unit, and then what is on its way back, and then what
@@ -37,10 +37,10 @@ module _ {D : Type 0} (meaning : Meaning D) where
   abbrev pub PostFlows : Type 0
   PostFlows = (b : Book D) (task : ℕ) (items : List PostedState) (views : List (View PostedState)) (v w : View PostedState) (pass : ℕ) →
       IsTaker unit_of NoFact items views v → get_elem? views pass ≡ some w → w.sends ≡ true → HasSent b task w.sent →
-      of for_task task (posted meaning b.mounted b.trace) ≡ of unit_of w.number (v.taken ++ items) ++ of for_task task b.out
+      of_sender for_task task (posted meaning b.mounted b.trace) ≡ of_sender unit_of w.number (v.taken ++ items) ++ of_sender for_task task b.out
 
   abbrev pub MetPostFlows : Type 0
   MetPostFlows = (b : Book D) (task unit : ℕ) (items : List PostedState) (views : List (View PostedState)) (v : View PostedState)
       (sent : List PostedState) →
       IsTaker unit_of NoFact items views v → Met v.met unit sent → HasSent b task sent →
-      of for_task task (posted meaning b.mounted b.trace) ≡ of unit_of unit (v.taken ++ items) ++ of for_task task b.out
+      of_sender for_task task (posted meaning b.mounted b.trace) ≡ of_sender unit_of unit (v.taken ++ items) ++ of_sender for_task task b.out

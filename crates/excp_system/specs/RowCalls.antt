@@ -9,7 +9,7 @@ use Rattle.unit_book.specs.Answers.{Extends}
 use Rattle.unit_book.specs.Book.{Book, given, occupancy}
 use Rattle.unit_book.specs.Dooms.{after_dooms}
 use Rattle.unit_book.specs.Trace.{arrivals, arrived_of}
-use Rattle.fifo_row.specs.Lists.{of}
+use Rattle.fifo_row.specs.Lists.{of_sender}
 use Rattle.fifo_row.specs.Steps.{WasEmpty, WasFull}
 use Rattle.unit_book.specs.declared.answer.Intake.{Intake}
 use Rattle.unit_book.specs.declared.answer.Intake.TheVariants as intake
@@ -53,4 +53,4 @@ module _ {D : Type 0} (meaning : Meaning D) (s : SiteRows) where
       × (given meaning new.book ≡ given meaning old.book ++ value ∷ [])
   UnitDelivers old (delivery.Full name) new =
       (value : PostedState) × IsFirst old.book name value × (new ≡ old)
-      × WasFull unit_of NoFact (end_of (post_rows s) old.unit value.name.task (of for_task value.name.task (given meaning old.book)))
+      × WasFull unit_of NoFact (end_of (post_rows s) old.unit value.name.task (of_sender for_task value.name.task (given meaning old.book)))

@@ -8,7 +8,7 @@ use Rattle.unit_book.specs.Lists.{Each}
 use Rattle.unit_book.specs.Trace.{arrivals}
 use Rattle.unit_book.specs.Book.{Book, given}
 use Rattle.fifo_row.specs.Ends.{Sending, Taking}
-use Rattle.fifo_row.specs.Lists.{of}
+use Rattle.fifo_row.specs.Lists.{of_sender}
 use Rattle.excp_system.specs.declared.item.Notice.{Notice}
 use Rattle.excp_system.specs.Sites.{SiteRows, intake_rows, post_rows, notice_rows, for_task, taker_of, end_of}
 use Rattle.excp_system.specs.declared.control.Control.{Control}
@@ -38,7 +38,7 @@ pub record IsUnit {D : Type 0} (meaning : Meaning D) (s : SiteRows) (v : Locked 
   pub intake_is : intake ≡ taker_of (intake_rows s) s.tasks v.unit (arrivals v.book.trace)
   pub back_is : back.number ≡ v.unit
   pub count : length back.sent ≡ s.tasks
-  pub sent : (task : ℕ) → task < s.tasks → sent_to back task ≡ of for_task task (given meaning v.book)
+  pub sent : (task : ℕ) → task < s.tasks → sent_to back task ≡ of_sender for_task task (given meaning v.book)
   pub notice_is : notice ≡ end_of (notice_rows s) v.unit v.book.isc v.notified
   pub of_unit : AreOf s v.unit (arrivals v.book.trace)
 

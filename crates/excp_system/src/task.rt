@@ -2,7 +2,7 @@
 
 ghost use Rattle.std.specs.Prelude.{◌≡◌, ◌<◌, ◌≤◌, ◌-◌, ◌^◌, length, IfErr, IfNone, IfOk, IfSome, OnErr, OnOk};
 ghost use Rattle.std.specs.List.{All};
-ghost use Rattle.fifo_row.specs.Lists.{of};
+ghost use Rattle.fifo_row.specs.Lists.{of_sender};
 ghost use Rattle.excp_system.specs.Controls.{ControlLacks, ControlRefused, ControlsBook};
 ghost use Rattle.excp_system.specs.Notices.{Notifies, became_pending};
 ghost use Rattle.excp_system.specs.Calls.{Asks, TaskCollects, IntakeWasFull, Issues, PostRowWasEmpty, next_name};
@@ -92,7 +92,7 @@ impl<'r, S: Site> Task<'r, S> {
     /// How many posted values of a unit it collected.
     pub(crate) fn collected(&self, unit: u16) -> u64
         requires { unit < S.rows.units }
-        ensures { result ≡ length (of unit_of unit self.now.got) }
+        ensures { result ≡ length (of_sender unit_of unit self.now.got) }
     {
         self.collected.taken_len(unit)
     }

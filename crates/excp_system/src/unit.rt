@@ -3,7 +3,7 @@
 mod book_calls;
 
 ghost use Rattle.std.specs.Prelude.{◌≡◌, ◌<◌, ◌≤◌, ◌++◌, ℕ, false, length, slice_get, IfOk, OnErr, Some};
-ghost use Rattle.fifo_row.specs.Lists.{of};
+ghost use Rattle.fifo_row.specs.Lists.{of_sender};
 ghost use Rattle.unit_book.specs.Book.{given, occupancy};
 ghost use Rattle.unit_book.specs.Legal.{Legal, Settled};
 ghost use Rattle.unit_book.specs.Posts.{posted};
@@ -124,7 +124,7 @@ impl<'r, S: Opened<D>, D: Device> UnitState<'r, S, D> {
     pub fn back(&self) -> &Fan<'r, Returned, PostRows<S>>
         ensures number { result.now.number ≡ self.now.unit }
         ensures count { length result.now.sent ≡ S.rows.tasks }
-        ensures sent { (task : ℕ) → task < S.rows.tasks → sent_to result.now task ≡ of for_task task (given D.meaning self.now.book) }
+        ensures sent { (task : ℕ) → task < S.rows.tasks → sent_to result.now task ≡ of_sender for_task task (given D.meaning self.now.book) }
     {
         &self.back
     }
@@ -147,7 +147,7 @@ impl<'r, S: Opened<D>, D: Device> UnitState<'r, S, D> {
     /// How many posted values it gave to a task.
     pub(crate) fn gave(&self, task: u16) -> u64
         requires { task < S.rows.tasks }
-        ensures { result ≡ length (of for_task task (given D.meaning self.now.book)) }
+        ensures { result ≡ length (of_sender for_task task (given D.meaning self.now.book)) }
     {
         self.back.sent_len(task)
     }

@@ -1,7 +1,7 @@
 -- What the rule of a row says between any two steps.
 use Rattle.std.proofs.Common.{◌≡◌, ℕ, List, ◌++◌, ap, sym, ◌∙◌, subst}
 use Rattle.fifo_row.specs.declared.view.View.{View}
-use Rattle.fifo_row.specs.Lists.{of, HaveFacts}
+use Rattle.fifo_row.specs.Lists.{of_sender, HaveFacts}
 use Rattle.fifo_row.specs.Rule.{FitsTaker}
 use Rattle.fifo_row.specs.Flows.{IsTaker, SeatedFlows, MetFlows, OfSenders, KeepsFacts}
 
@@ -13,8 +13,8 @@ module _ {I : Type 0} (from : I → ℕ) (fact : I → ℕ → ℕ → ℕ → T
 
   -- what was taken of sender k and is held, as the taker knows it
   of_all : (items : List I) (views : List (View I)) (v : View I) (t : IsTaker from fact items views v) (k : ℕ) →
-      of from k (v.taken ++ items) ≡ of from k (t.kept.taken ++ items)
-  of_all items views v t k = ap (λ l. of from k (l ++ items)) (seat_of items views v t).taken_is
+      of_sender from k (v.taken ++ items) ≡ of_sender from k (t.kept.taken ++ items)
+  of_all items views v t k = ap (λ l. of_sender from k (l ++ items)) (seat_of items views v t).taken_is
 
   pub seated_flows : SeatedFlows from fact
   seated_flows items views v w pass t at sends = of_all items views v t w.number ∙ ((t.kept.fair.fits pass w at).as_sender sends).sent_is
@@ -27,5 +27,5 @@ module _ {I : Type 0} (from : I → ℕ) (fact : I → ℕ → ℕ → ℕ → T
 
   pub keeps_facts : KeepsFacts from fact
   keeps_facts items views v k t some_made =
-      subst (λ tag. HaveFacts fact tag k (of from k (v.taken ++ items))) (sym ((seat_of items views v t).tag_is some_made))
+      subst (λ tag. HaveFacts fact tag k (of_sender from k (v.taken ++ items))) (sym ((seat_of items views v t).tag_is some_made))
       (subst (HaveFacts fact t.kept.tag k) (sym (of_all items views v t k)) (t.kept.fair.lawful k))

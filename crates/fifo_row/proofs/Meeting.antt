@@ -7,7 +7,7 @@ use lib.ListN.{get_elem?}
 use Rattle.crossbeam_queue.specs.Fifo.{Merges}
 use Rattle.crossbeam_queue.proofs.Lists.{at_set}
 use Rattle.fifo_row.specs.declared.view.View.{View}
-use Rattle.fifo_row.specs.Lists.{of}
+use Rattle.fifo_row.specs.Lists.{of_sender}
 use Rattle.fifo_row.specs.Views.{sender_view, taker_view, spent_view}
 use Rattle.fifo_row.specs.Rule.{FitsSender, FitsTaker, PassFits, Fair, Kept}
 use Rattle.fifo_row.proofs.Places.{all_set, met_cons}
@@ -39,7 +39,7 @@ module _ {I : Type 0} (from : I → ℕ) (fact : I → ℕ → ℕ → ℕ → T
           (λ (new : (k ≡ number) × (sent ≡ xs)). (
             subst (λ i. i < made) (sym new.0) below,
             ap seats new.0 ∙ seat-same seat number None,
-            ap (λ i. of from i all) new.0
+            ap (λ i. of_sender from i all) new.0
                 ∙ (theirs.sent_is ∙ new.1),
           ))
           (λ old. let l = mine.ended k xs old in (l.0, empty k l.1, l.2))

@@ -7,7 +7,7 @@ use native.Mathlib.Decide.{dec_le}
 use lib.ListN.{get_elem?}
 use Rattle.crossbeam_queue.specs.Fifo.{Forks}
 use Rattle.fifo_row.specs.declared.view.View.{View}
-use Rattle.fifo_row.specs.Lists.{of}
+use Rattle.fifo_row.specs.Lists.{of_sender}
 use Rattle.fifo_row.specs.Views.{sender_view, taker_view}
 use Rattle.fifo_row.specs.Rule.{FitsTaker, PassFits, Fair, Kept}
 use Rattle.fifo_row.proofs.Places.{all_set_snoc}
@@ -33,7 +33,7 @@ module _ {I : Type 0} (from : I → ℕ) (fact : I → ℕ → ℕ → ℕ → T
       Fair from fact new reader seat all taken views
   retagged tag new reader seat all taken views pass t got met f at =
       let mine = (f.fits pass (taker_view t 0 got met) at).as_taker refl in
-      let none : (k : ℕ) → of from k all ≡ [] = λ k. (mine.later k (omega arith)).1 in
+      let none : (k : ℕ) → of_sender from k all ≡ [] = λ k. (mine.later k (omega arith)).1 in
       record {
         lawful = λ k i x e. absurd (some-ne-none x (sym e ∙ ap (λ l. get_elem? l i) (none k)));
         few = f.few;
@@ -62,7 +62,7 @@ module _ {I : Type 0} (from : I → ℕ) (fact : I → ℕ → ℕ → ℕ → T
     abbrev seats : ℕ → Option ℕ
     seats = seat_with seat made (Some (length views))
 
-    free : (seat made ≡ None) × (of from made all ≡ [])
+    free : (seat made ≡ None) × (of_sender from made all ≡ [])
     free = mine.later made (omega arith)
 
     -- the taker, with one sender more

@@ -5,7 +5,7 @@ use mathlib.Core.Logic.{dite}
 use native.Mathlib.Decide.{ℕ_discrete}
 use Rattle.crossbeam_queue.specs.Fifo.{Pushes}
 use Rattle.fifo_row.specs.declared.view.View.{View}
-use Rattle.fifo_row.specs.Lists.{of, HaveFacts}
+use Rattle.fifo_row.specs.Lists.{of_sender, HaveFacts}
 use Rattle.fifo_row.specs.Views.{sender_view}
 use Rattle.fifo_row.specs.Rule.{FitsSender, FitsTaker, PassFits, Fair, Kept}
 use Rattle.fifo_row.specs.Steps.{Sends}
@@ -16,17 +16,17 @@ use Rattle.fifo_row.proofs.Fitting.{not_none, as_sender, apart}
 module _ {I : Type 0} (from : I → ℕ) (fact : I → ℕ → ℕ → ℕ → Type 0) where
   module _ (tag reader : ℕ) (seat : ℕ → Option ℕ) (all taken : List I) (pass t number : ℕ) (sent : List I) (x : I) (is : from x ≡ number)
       (mine : FitsSender from tag seat all pass (sender_view t number sent)) where
-    of_mine : of from number (all ++ x ∷ []) ≡ sent ++ x ∷ []
+    of_mine : of_sender from number (all ++ x ∷ []) ≡ sent ++ x ∷ []
     of_mine = of-snoc_same from number x all is ∙ ap (λ l. l ++ x ∷ []) mine.sent_is
 
-    of_other : (k : ℕ) → k ≢ number → of from k (all ++ x ∷ []) ≡ of from k all
+    of_other : (k : ℕ) → k ≢ number → of_sender from k (all ++ x ∷ []) ≡ of_sender from k all
     of_other k ne = of-snoc_other from k x all (λ e. ne (sym e ∙ is))
 
     -- a fact of each sender's items stays if it holds of this sender's with x behind them
-    each : (P : ℕ → List I → Type 0) → P number (sent ++ x ∷ []) → ((k : ℕ) → P k (of from k all)) → (k : ℕ) →
-        P k (of from k (all ++ x ∷ []))
+    each : (P : ℕ → List I → Type 0) → P number (sent ++ x ∷ []) → ((k : ℕ) → P k (of_sender from k all)) → (k : ℕ) →
+        P k (of_sender from k (all ++ x ∷ []))
     each P new old k = dite (ℕ_discrete k number)
-        (λ e. subst (λ j. P j (of from j (all ++ x ∷ []))) (sym e) (subst (P number) (sym of_mine) new))
+        (λ e. subst (λ j. P j (of_sender from j (all ++ x ∷ []))) (sym e) (subst (P number) (sym of_mine) new))
         (λ ne. subst (P k) (sym (of_other k ne)) (old k))
 
     -- another sender's pass, and the taker's

@@ -8,7 +8,7 @@ use native.Mathlib.Decide.{dec_le}
 use lib.ListN.{get_elem?}
 use Rattle.crossbeam_queue.specs.Fifo.{Pops, Held}
 use Rattle.fifo_row.specs.declared.view.View.{View}
-use Rattle.fifo_row.specs.Lists.{of, Met, BeginsWith}
+use Rattle.fifo_row.specs.Lists.{of_sender, Met, BeginsWith}
 use Rattle.fifo_row.specs.Ends.{Taking, AllEnded}
 use Rattle.fifo_row.specs.Views.{taker_view}
 use Rattle.fifo_row.specs.Rule.{PassFits, Fair, Kept}
@@ -51,13 +51,13 @@ module _ {I : Type 0} (from : I → ℕ) (fact : I → ℕ → ℕ → ℕ → T
       let mine = (h.fair.fits pass (taker_view t made got met) at).as_taker refl in
       let all : List I = h.taken ++ x ∷ items in
       let k : ℕ = from x in
-      let standing : of from k all ≡ of from k got ++ x ∷ of from k items = of-at from x h.taken items
-      ∙ ap (λ l. of from k l ++ x ∷ of from k items) (sym mine.taken_is) in
-      let there : get_elem? (of from k all) (length (of from k got)) ≡ some x = ap (λ l. get_elem? l (length (of from k got))) standing
-      ∙ get-seam (of from k got) (of from k items) x in
-      let long : length (of from k all) ≡ length (of from k got) + length (x ∷ of from k items) =
-      ap length standing ∙ length-append (of from k got) (x ∷ of from k items) in
-      let few : length (of from k all) ≤ 2 ^ 62 = h.fair.few k in
+      let standing : of_sender from k all ≡ of_sender from k got ++ x ∷ of_sender from k items = of-at from x h.taken items
+      ∙ ap (λ l. of_sender from k l ++ x ∷ of_sender from k items) (sym mine.taken_is) in
+      let there : get_elem? (of_sender from k all) (length (of_sender from k got)) ≡ some x = ap (λ l. get_elem? l (length (of_sender from k got))) standing
+      ∙ get-seam (of_sender from k got) (of_sender from k items) x in
+      let long : length (of_sender from k all) ≡ length (of_sender from k got) + length (x ∷ of_sender from k items) =
+      ap length standing ∙ length-append (of_sender from k got) (x ∷ of_sender from k items) in
+      let few : length (of_sender from k all) ≤ 2 ^ 62 = h.fair.few k in
       let below : k < made = dite (dec_le made k)
       (λ le. let l = mine.later k le in absurd (omega (arith, long, ap length l.1)))
       (λ gt. omega (arith, gt)) in
@@ -75,8 +75,8 @@ module _ {I : Type 0} (from : I → ℕ) (fact : I → ℕ → ℕ → ℕ → T
         (
           refl,
           below,
-          subst (λ j. fact x k (suc (length (of from k got))) j) (sym tag_is)
-              (h.fair.lawful k (length (of from k got)) x there),
+          subst (λ j. fact x k (suc (length (of_sender from k got))) j) (sym tag_is)
+              (h.fair.lawful k (length (of_sender from k got)) x there),
           omega (arith, long, few),
         ),
       )
@@ -101,17 +101,17 @@ module _ {I : Type 0} (from : I → ℕ) (fact : I → ℕ → ℕ → ℕ → T
   pub all_ended : (t : Taking I) → WasEmpty from fact t → AllEnded from t
   all_ended t (views, pass, h, at) k sent m =
       let v : View I = taker_view t.tag t.senders t.taken t.met in
-      ap (of from k) (sym (append-nil t.taken)) ∙ met_flows from fact [] views v k sent
+      ap (of_sender from k) (sym (append-nil t.taken)) ∙ met_flows from fact [] views v k sent
       (record { kept = h; pass = pass; at = at; takes = refl }) m
 
   -- what was taken of a sender that was met begins all that it sent
   pub begins_as : (v : View I) (t made : ℕ) (taken : List I) (met : List (ℕ × List I)) (k : ℕ) (sent : List I)
       → v ≡ taker_view t made taken met → ((items : List I) × IsState from fact v items) → Met met k sent →
-      BeginsWith (of from k taken) sent
+      BeginsWith (of_sender from k taken) sent
   begins_as v t made taken met k sent is seen m =
       let u : View I = taker_view t made taken met in
       let (views, pass, h, at) = subst (λ (x : View I). IsState from fact x seen.0) is seen.1 in (
-        of from k seen.0,
+        of_sender from k seen.0,
         sym (of-append from k taken seen.0) ∙ met_flows from fact seen.0 views u k sent
             (record { kept = h; pass = pass; at = at; takes = refl }) m,
       )

@@ -1,7 +1,7 @@
 -- A row and its ends, as contracts see them. Profile.
 use Rattle.std.specs.Prelude.{◌≡◌, ◌<◌, ℕ, suc, List, [], length, Bool, false, Some, slice_get}
 use Rattle.atomic_table.specs.Seated.{TableId}
-use Rattle.fifo_row.specs.Lists.{of, Met}
+use Rattle.fifo_row.specs.Lists.{of_sender, Met}
 
 -- which row it is
 abbrev pub RowName : Type 0
@@ -66,8 +66,8 @@ pub record Seats {I : Type 0} (senders : List (Sending I)) (taker : Taking I) (r
 -- were taken
 pub record IsNextItem {I : Type 0} (from : I → ℕ) (fact : I → ℕ → ℕ → ℕ → Type 0) (t : Taking I) (x : I) : Type 0 where
   pub of_row : from x < t.senders
-  pub lawful : fact x (from x) (suc (length (of from (from x) t.taken))) t.tag
+  pub lawful : fact x (from x) (suc (length (of_sender from (from x) t.taken))) t.tag
 
 -- of each sender that was met, all was taken
 abbrev pub AllEnded : {I : Type 0} → (I → ℕ) → Taking I → Type 0
-AllEnded {I} from t = (k : ℕ) (sent : List I) → Met t.met k sent → of from k t.taken ≡ sent
+AllEnded {I} from t = (k : ℕ) (sent : List I) → Met t.met k sent → of_sender from k t.taken ≡ sent

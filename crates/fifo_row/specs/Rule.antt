@@ -9,7 +9,7 @@ use Rattle.std.specs.Prelude.{◌≡◌, ℕ, ◌≤◌, ◌<◌, ◌^◌, List,
 use mathlib.Core.Option.{some}
 use lib.ListN.{get_elem?}
 use Rattle.fifo_row.specs.declared.view.View.{View}
-use Rattle.fifo_row.specs.Lists.{of, HaveFacts, Met}
+use Rattle.fifo_row.specs.Lists.{of_sender, HaveFacts, Met}
 
 -- In what follows `all` is what was taken, and then what the row holds; `seat k` is the pass of sender k, and none
 -- before it is made and once it was met; `reader` is the taker's pass.
@@ -18,7 +18,7 @@ use Rattle.fifo_row.specs.Lists.{of, HaveFacts, Met}
 pub record FitsSender {I : Type 0} (from : I → ℕ) (tag : ℕ) (seat : ℕ → Option ℕ) (all : List I) (pass : ℕ) (v : View I) : Type 0 where
   pub here : seat v.number ≡ Some pass
   pub tag_is : v.tag ≡ tag
-  pub sent_is : of from v.number all ≡ v.sent
+  pub sent_is : of_sender from v.number all ≡ v.sent
 
 -- the taker's pass is the only one: it knows what was taken, and the row's tag once it has made a sender; senders that
 -- it has not made have sent nothing; and of each that it met, what was taken and is held is what it had sent
@@ -27,8 +27,8 @@ pub record FitsTaker {I : Type 0} (from : I → ℕ) (tag reader : ℕ) (seat : 
   pub here : pass ≡ reader
   pub tag_is : 0 < v.made → v.tag ≡ tag
   pub taken_is : v.taken ≡ taken
-  pub later : (k : ℕ) → v.made ≤ k → (seat k ≡ None) × (of from k all ≡ [])
-  pub ended : (k : ℕ) (sent : List I) → Met v.met k sent → (k < v.made) × (seat k ≡ None) × (of from k all ≡ sent)
+  pub later : (k : ℕ) → v.made ≤ k → (seat k ≡ None) × (of_sender from k all ≡ [])
+  pub ended : (k : ℕ) (sent : List I) → Met v.met k sent → (k < v.made) × (seat k ≡ None) × (of_sender from k all ≡ sent)
 
 -- a pass that is neither a sender's nor the taker's is spent, and may know anything
 pub record PassFits {I : Type 0} (from : I → ℕ) (tag reader : ℕ) (seat : ℕ → Option ℕ) (all taken : List I) (pass : ℕ)
@@ -39,8 +39,8 @@ pub record PassFits {I : Type 0} (from : I → ℕ) (tag reader : ℕ) (seat : �
 module _ {I : Type 0} (from : I → ℕ) (fact : I → ℕ → ℕ → ℕ → Type 0) where
   -- each item has its fact, no sender's items are more than a number can count, and each pass fits
   pub record Fair (tag reader : ℕ) (seat : ℕ → Option ℕ) (all taken : List I) (views : List (View I)) : Type 0 where
-    pub lawful : (k : ℕ) → HaveFacts fact tag k (of from k all)
-    pub few : (k : ℕ) → length (of from k all) ≤ 2 ^ 62
+    pub lawful : (k : ℕ) → HaveFacts fact tag k (of_sender from k all)
+    pub few : (k : ℕ) → length (of_sender from k all) ≤ 2 ^ 62
     pub fits : (pass : ℕ) (v : View I) → get_elem? views pass ≡ some v → PassFits from tag reader seat all taken pass v
 
   -- the rule of a row that holds these items, and whose passes know these views

@@ -7,7 +7,7 @@ use Rattle.std.specs.Prelude.{◌≡◌, ℕ, suc, ◌<◌, ◌^◌, List, [], �
 use mathlib.Core.Option.{some}
 use lib.ListN.{get_elem?}
 use Rattle.fifo_row.specs.declared.view.View.{View}
-use Rattle.fifo_row.specs.Lists.{of}
+use Rattle.fifo_row.specs.Lists.{of_sender}
 use Rattle.fifo_row.specs.Ends.{Sending, Taking}
 use Rattle.fifo_row.specs.Views.{sender_view, taker_view}
 use Rattle.fifo_row.specs.Rule.{Kept}
@@ -22,8 +22,8 @@ module _ {I : Type 0} (from : I → ℕ) (fact : I → ℕ → ℕ → ℕ → T
   TakesItem v x w =
       (w ≡ taker_view v.tag v.made (v.taken ++ x ∷ []) v.met)
       × (from x < v.made)
-      × fact x (from x) (suc (length (of from (from x) v.taken))) v.tag
-      × (length (of from (from x) v.taken) < 2 ^ 62)
+      × fact x (from x) (suc (length (of_sender from (from x) v.taken))) v.tag
+      × (length (of_sender from (from x) v.taken) < 2 ^ 62)
 
   -- a state of the rule in which the row holds these items, and a pass knows this
   abbrev pub IsState : View I → List I → Type 0

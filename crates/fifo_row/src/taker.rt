@@ -1,7 +1,7 @@
 //! The end of a row that takes.
 ghost use Rattle.std.specs.Prelude.{◌≡◌, ◌<◌, ◌∷◌, ◌++◌, [], length, replicate, IfNone, IfSome};
 ghost use Rattle.crossbeam_queue.specs.Passes.{IsPassOf, ruled_capacity};
-ghost use Rattle.fifo_row.specs.Lists.{BeginsWith, of};
+ghost use Rattle.fifo_row.specs.Lists.{BeginsWith, of_sender};
 ghost use Rattle.fifo_row.specs.Ends.{AllEnded, IsNextItem, first_taking};
 ghost use Rattle.fifo_row.specs.Steps.{WasEmpty};
 ghost use Rattle.fifo_row.specs.Views.{known, taker_view};
@@ -27,7 +27,7 @@ impl<'r, I: Item> Model for Taker<'r, I> {
     ghost use Rattle.std.specs.Prelude.{◌≡◌, ◌<◌, ℕ, length, slice_index};
     ghost use Rattle.crossbeam_queue.specs.Passes.{IsPassOf, ruled_capacity};
     ghost use Rattle.fifo_row.specs.Ends.{Taking};
-    ghost use Rattle.fifo_row.specs.Lists.{of};
+    ghost use Rattle.fifo_row.specs.Lists.{of_sender};
     ghost use Rattle.fifo_row.specs.Views.{known, taker_view};
 
     ghost Value = { Taking I };
@@ -43,7 +43,7 @@ impl<'r, I: Item> Model for Taker<'r, I> {
 
     ghost invariant = { λ t. IsPassOf t.queue.now t.pass
         × (known t.pass ≡ taker_view t.tag (length t.counts.items) (known t.pass).taken (known t.pass).met)
-        × ((k : ℕ) → k < length t.counts.items → slice_index t.counts.items k ≡ length (of I.from k (known t.pass).taken)) };
+        × ((k : ℕ) → k < length t.counts.items → slice_index t.counts.items k ≡ length (of_sender I.from k (known t.pass).taken)) };
 }
 
 impl<'r, I: Item> Taker<'r, I> {
@@ -69,7 +69,7 @@ impl<'r, I: Item> Taker<'r, I> {
     /// How many items of sender `k` were taken. It takes no memory.
     pub fn taken_len(&self, k: u16) -> u64
         requires { k < self.now.senders }
-        ensures { result ≡ length (of I.from k self.now.taken) }
+        ensures { result ≡ length (of_sender I.from k self.now.taken) }
     {
         self.counts[usize::from(k)]
     }
@@ -102,7 +102,7 @@ impl<'r, I: Item> Taker<'r, I> {
     pub fn meet(&mut self, sender: Sender<'r, I>)
         requires { sender.row ≡ self.old.row }
         ensures met { self.new ≡ record self.old { met = (sender.entry.number, sender.entry.sent) ∷ self.old.met } }
-        ensures begins { BeginsWith (of I.from sender.entry.number self.old.taken) sender.entry.sent }
+        ensures begins { BeginsWith (of_sender I.from sender.entry.number self.old.taken) sender.entry.sent }
     {
         let queue = self.queue;
         queue.absorb::<Meet>(&mut self.pass, sender.into_pass());

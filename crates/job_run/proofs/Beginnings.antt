@@ -57,7 +57,7 @@ begun_with {N} r given s capacity first mounted =
     (λ (f : Finished N). AreBegunWith given s f.report.books)
     (λ f began controlled. record {
       capacity = capacity;
-      first = all_without_spare first;
+      first_books = all_without_spare first;
       mounted = mounted;
       began = apart_from_spare first.items f.report.books began;
       controlled = controlled_apart s first.items f.report.books controlled;

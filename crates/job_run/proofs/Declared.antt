@@ -37,11 +37,6 @@ any_ok : {A B : Type 0} (r : Result A FaultName) (f : A → Result B FaultName) 
 any_ok (Ok x) f Q next = next x
 any_ok (Err e) f Q next = tt
 
--- what is given, if it is
-given_ok : {A E : Type 0} (r : Result A E) → IfOk r (λ x. r ≡ Ok x)
-given_ok (Ok x) = refl
-given_ok (Err e) = tt
-
 -- an EXCP names a DCB from 1 on, and no other command is an EXCP
 abbrev IsOther : ActionSaid → Type 0
 IsOther (excp e) = ⊥

@@ -4,7 +4,7 @@ use Rattle.unit_book.proofs.Names.{if◌then◌else◌, map, refl, sym, ap, ◌�
 use Rattle.unit_book.proofs.Names.{cases_Bool, list_any, Name, Piece, PostedState, same}
 use Rattle.unit_book.proofs.Lists.{find-passes, same-is, same-true}
 use Rattle.serial_order.specs.Laws.{value_of}
-use Rattle.fifo_row.specs.Lists.{of}
+use Rattle.fifo_row.specs.Lists.{of_sender}
 use Rattle.excp_system.specs.Sites.{for_task}
 use Rattle.job_script.specs.Said.{ExcpSaid}
 use Rattle.job_run.specs.Printing.{excp_text, excps_text, first_numbered}
@@ -42,10 +42,10 @@ by_task false k p ps o is = is
 
 -- the first of a task's posts with a number is the one of this name
 pub first_named : (task k : ℕ) (ps : List PostedState) →
-    first_numbered k (of for_task task ps) ≡ value_of (record { task = task; seq = k }) ps
+    first_numbered k (of_sender for_task task ps) ≡ value_of (record { task = task; seq = k }) ps
 first_named task k [] = refl
 first_named task k (p ∷ ps) =
-    by_task (p.name.task == task) k p (of for_task task ps) (value_of (record { task = task; seq = k }) ps) (first_named task k ps)
+    by_task (p.name.task == task) k p (of_sender for_task task ps) (value_of (record { task = task; seq = k }) ps) (first_named task k ps)
 
 -- the lines are the same if each number has the same post
 pub same_lines : (task unit k : ℕ) (es : List ExcpSaid) (ps vs : List PostedState) →

@@ -16,11 +16,12 @@ use Rattle.unit_book.specs.declared.entry.Entry.{Entry}
 use Rattle.unit_book.proofs.Facts.{fresh-post}
 use Rattle.unit_book.proofs.LegalFacts.{facts}
 use Rattle.unit_book.proofs.NameLaws.{arrived-any}
-use Rattle.serial_order.specs.Laws.{IsUncontrolled, openings, value_of}
+use Rattle.unit_book.specs.Dcbs.{openings}
+use Rattle.serial_order.specs.Laws.{IsUncontrolled, value_of}
 use Rattle.serial_order.specs.OneAtATime.{one_at_a_time}
 use Rattle.serial_order.proofs.InOrder.{serves-in-order}
 use Rattle.serial_order.proofs.Values.{value-none}
-use Rattle.fifo_row.specs.Lists.{of}
+use Rattle.fifo_row.specs.Lists.{of_sender}
 use Rattle.excp_system.specs.Begun.{Continues}
 use Rattle.excp_system.specs.Sites.{for_task, task_of}
 use Rattle.post_ledger.proofs.Pairs.{all_get, get_map}
@@ -82,9 +83,9 @@ module _ (commands : List CommandSaid) where
       let ps : List PostedState = posted any_device b.mounted b.trace in
       let vs : List PostedState = serial_posts f (arrivals b.trace) in
       ap (λ (l : List ℕ). l ++ books_text commands task (unit + 1) books)
-      (same_lines task unit 1 es (of for_task task ps) (of for_task task vs)
+      (same_lines task unit 1 es (of_sender for_task task ps) (of_sender for_task task vs)
       (λ k. first_named task k ps ∙ all.0 (record { task = task; seq = k }) ∙ sym (first_named task k vs)))
-      ∙ ap (λ (l : List ℕ). excps_text task unit 1 es (of for_task task vs) ++ l) (task_text task (unit + 1) first books all.1)
+      ∙ ap (λ (l : List ℕ). excps_text task unit 1 es (of_sender for_task task vs) ++ l) (task_text task (unit + 1) first books all.1)
 
   tasks_text : (first books : List (Book AnyDevice)) → AllPostInOrder first books → (task tasks : ℕ) →
       run_text commands books task tasks ≡ posts_of_tasks_text commands (all_serial_posts first (arrived books)) task tasks
@@ -109,11 +110,11 @@ arrived_orders s books ran = record {
 
 -- EACH RUN WITHOUT CONTROLS prints what units print that serve one request at a time
 pub serves_serially : (given : List (Option AnyDevice)) (s : Said) (books : List (Book AnyDevice)) (began : AreBegunWith given s books) →
-    Ran s books → AsksNothing s → posts_text s books ≡ serial_text s began.first (arrived books)
+    Ran s books → AsksNothing s → posts_text s books ≡ serial_text s began.first_books (arrived books)
 serves_serially given s books began ran unasked =
     ap (λ (l : List ℕ). l ++ count_text (excp_count s.commands))
-    (tasks_text s.commands began.first books
-    (all_in_order began.first books (λ u b at.
+    (tasks_text s.commands began.first_books books
+    (all_in_order began.first_books books (λ u b at.
     let c = began.controlled u b at in
     let e = began.began u b at in
     let same : e.first ≡ c.first = cc (e.is, c.is) in (

@@ -8,7 +8,7 @@ use Rattle.std.proofs.lemmas.Bool.Decides.{nat_tests}
 use Rattle.request_piece.specs.declared.piece.Piece.{Piece}
 use Rattle.unit_book.specs.Lists.{Each}
 use Rattle.unit_book.proofs.Lists.{filter-all}
-use Rattle.fifo_row.specs.Lists.{of}
+use Rattle.fifo_row.specs.Lists.{of_sender}
 use Rattle.excp_system.specs.Sites.{task_of}
 use Rattle.job_script.specs.Said.{CommandSaid, Said}
 use Rattle.job_run.specs.Requests.{excps, requests_from}
@@ -27,7 +27,7 @@ passed false r rs is none = none
 
 -- the requests are all of one task, if none is of another
 all_own : (owner tasks : ℕ) (rs : List Piece) → Each (λ r. task_of r < tasks) rs →
-    ((t : ℕ) → t < tasks → t ≢ owner → of task_of t rs ≡ []) → list_all (λ r. task_of r == owner) rs ≡ true
+    ((t : ℕ) → t < tasks → t ≢ owner → of_sender task_of t rs ≡ []) → list_all (λ r. task_of r == owner) rs ≡ true
 all_own owner tasks [] few none = refl
 all_own owner tasks (r ∷ rs) few none =
     elim (cases_Bool (task_of r == owner)) [
@@ -36,11 +36,11 @@ all_own owner tasks (r ∷ rs) few none =
           (all_own owner tasks rs few.1 (λ t within apart.
           let is : task_of r ≡ owner = eqb-true (task_of r) owner own in
           let differs : (task_of r == t) ≡ false = grind (arith, nat_tests, is, apart) in
-          passed (task_of r == t) r (of task_of t rs) differs (none t within apart)))
+          passed (task_of r == t) r (of_sender task_of t rs) differs (none t within apart)))
       | inr other ↦
           let apart : task_of r ≢ owner = grind (arith, nat_tests, other) in
           let same : (task_of r == task_of r) ≡ true = grind (arith, nat_tests) in
-          absurd (kept (task_of r == task_of r) r (of task_of (task_of r) rs) same (none (task_of r) few.0 apart))
+          absurd (kept (task_of r == task_of r) r (of_sender task_of (task_of r) rs) same (none (task_of r) few.0 apart))
     ]
 
 module _ (commands : List CommandSaid) (unit : ℕ) where
@@ -83,7 +83,7 @@ one_order s unit order is one = by_order order is.of_tasks is.of_each where
   none t few apart = none_requests s.commands unit t (one.no_other t few apart)
 
   by_order : (rs : List Piece) → Each (λ r. task_of r < s.set_up.tasks) rs →
-      ((t : ℕ) → t < s.set_up.tasks → of task_of t rs ≡ requests_from t 1 (excps t unit s.commands)) →
+      ((t : ℕ) → t < s.set_up.tasks → of_sender task_of t rs ≡ requests_from t 1 (excps t unit s.commands)) →
       rs ≡ task_after_task s.commands unit 0 s.set_up.tasks
   by_order [] few each = sym (none_after s.commands unit 0 s.set_up.tasks (λ t from to. sym (each t (omega (arith, to)))))
   by_order (r ∷ rs) few each =

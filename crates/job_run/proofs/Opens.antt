@@ -8,7 +8,6 @@ use Rattle.any_device.specs.declared.device.AnyDevice.{AnyDevice}
 use Rattle.unit_book.specs.Book.{Book, opening}
 use Rattle.unit_book.specs.Dcbs.{is_opened, opened_count}
 use Rattle.unit_book.specs.declared.entry.Entry.{Entry}
-use Rattle.unit_book.specs.declared.entry.Entry.TheVariants.{Opened}
 use Rattle.job_script.specs.Grammar.{FaultAt}
 use Rattle.job_script.specs.Said.{OpeningSaid, Said, UnitSaid}
 use Rattle.job_mount.specs.Mounting.{◌>>=◌, at_extent, books_with, devices_with, opened, tried, units_with}

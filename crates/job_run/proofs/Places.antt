@@ -3,7 +3,7 @@ use Rattle.std.proofs.Common.{◌≡◌, ◌≢◌, ℕ, zero, suc, ◌+◌, ◌
 use Rattle.std.proofs.lemmas.Bool.{eqb-true}
 use Rattle.std.proofs.lemmas.Bool.Decides.{nat_tests}
 use Rattle.request_piece.specs.PostedState.{PostedState}
-use Rattle.fifo_row.specs.Lists.{of}
+use Rattle.fifo_row.specs.Lists.{of_sender}
 use Rattle.excp_system.specs.Sites.{unit_of}
 use Rattle.post_lines.specs.Slots.{SlotState, change, change_from_1, filled, filled_by_all, filled_slot, filled_unit}
 use Rattle.job_run.specs.Filling.{filled_at, listed_from}
@@ -53,9 +53,9 @@ one_at u p ps slots false other =
     ap (filled_all ps) (changed_other (filled_unit p) p.unit u slots apart)
 
 pub by_all_at : (ps : List PostedState) (slots : List (List SlotState)) (u : ℕ) →
-    at (filled_by_all ps slots) u ≡ filled_all (of unit_of u ps) (at slots u)
+    at (filled_by_all ps slots) u ≡ filled_all (of_sender unit_of u ps) (at slots u)
 by_all_at [] slots u = refl
-by_all_at (p ∷ ps) slots u = by_all_at ps (filled p.unit p slots) u ∙ one_at u p (of unit_of u ps) slots (p.unit == u) refl
+by_all_at (p ∷ ps) slots u = by_all_at ps (filled p.unit p slots) u ∙ one_at u p (of_sender unit_of u ps) slots (p.unit == u) refl
 
 pub by_all_length : (ps : List PostedState) (slots : List (List SlotState)) → length (filled_by_all ps slots) ≡ length slots
 by_all_length [] slots = refl

@@ -7,7 +7,7 @@ use Rattle.any_device.specs.Devices.{any_device}
 use Rattle.any_device.specs.declared.device.AnyDevice.{AnyDevice}
 use Rattle.unit_book.specs.Book.{Book}
 use Rattle.request_piece.specs.PostedState.{PostedState}
-use Rattle.fifo_row.specs.Lists.{of}
+use Rattle.fifo_row.specs.Lists.{of_sender}
 use Rattle.excp_system.proofs.Places.{index_replicate}
 use Rattle.excp_system.specs.Opening.{fresh_task}
 use Rattle.excp_system.specs.Sites.{unit_of}
@@ -103,7 +103,7 @@ module _ {N : Type 0} (script : Script) (units count : ℕ) (opened : List (Book
       let k = left_by t few in
       let own : List (List SlotState) = slots_for script t in
       let rest : List PostedState = list_at report t u in
-      let got : List PostedState = of unit_of u k.task.got in
+      let got : List PostedState = of_sender unit_of u k.task.got in
       let none : List (List SlotState) = replicate (vec_len script.set_up.units) [] in
       let within : u < length none =
       omega (arith, slice_get_within report.books u b at_u, is_for.of_units, sized, length-replicate {A = List SlotState} (vec_len script.set_up.units) []) in

@@ -1,5 +1,5 @@
 -- Without controls, code 48 means that a related request to the DCB ended in error before: a script opens each DCB that it names.
-use Rattle.std.proofs.Common.{◌≡◌, ◌≤◌, ◌<◌, ◌+◌, ◌==◌, ℕ, zero, suc, Bool, true, false, if◌then◌else◌, Option, Some, Result, Ok, Err}
+use Rattle.std.proofs.Common.{◌≡◌, ◌≤◌, ◌<◌, ◌+◌, ◌==◌, ℕ, zero, suc, Bool, true, false, if◌then◌else◌, Some, Result, Ok, Err}
 use Rattle.std.proofs.Common.{List, [], ◌∷◌, ◌++◌, length, refl, sym, subst, ap, ◌∙◌, arith}
 use Rattle.std.specs.Prelude.{nat_le, slice_get}
 use Rattle.std.proofs.lemmas.Bool.{eq-eqb, eqb-true}
@@ -7,16 +7,14 @@ use Rattle.std.proofs.lemmas.Bool.Decides.{nat_tests}
 use Rattle.request_piece.specs.PostedState.{PostedState}
 use Rattle.request_piece.specs.declared.piece.Piece.{Piece}
 use Rattle.any_device.specs.Devices.{any_device}
-use Rattle.any_device.specs.declared.device.AnyDevice.{AnyDevice}
-use Rattle.unit_book.specs.Book.{Book}
-use Rattle.unit_book.specs.Dcbs.{is_opened}
+use Rattle.unit_book.specs.Dcbs.{is_opened, openings}
 use Rattle.unit_book.specs.Lists.{Each}
 use Rattle.unit_book.proofs.Facts.{Each-at}
 use Rattle.unit_book.specs.declared.entry.Entry.{Entry}
-use Rattle.serial_order.specs.Laws.{FollowsError, openings}
+use Rattle.serial_order.specs.Laws.{FollowsError}
 use Rattle.serial_order.proofs.InOrder.{serves-in-order}
 use Rattle.serial_order.proofs.Uncontrolled.{opened-is}
-use Rattle.fifo_row.specs.Lists.{of}
+use Rattle.fifo_row.specs.Lists.{of_sender}
 use Rattle.excp_system.specs.Sites.{task_of}
 use Rattle.job_script.specs.declared.command.DcbName.{DcbName}
 use Rattle.job_script.specs.declared.fault.FaultName.{FaultName}
@@ -24,10 +22,10 @@ use Rattle.job_script.specs.declared.fault.FaultName.TheVariants as names
 use Rattle.job_script.specs.Adding.{is_dcb, numbered}
 use Rattle.job_script.specs.Steps.{◌>>=◌}
 use Rattle.job_script.specs.Said.{ActionSaid, CommandSaid, ExcpSaid, SetUpSaid, UnitSaid, close, excp, purge, purge_task, reset, wait}
-use Rattle.job_run.specs.Laws.{HasPostOf, PurgesAfterErrors}
+use Rattle.job_run.specs.Laws.{PurgesAfterErrors}
 use Rattle.job_run.specs.Requests.{excp_to, excps, requests_from}
 use Rattle.job_run.proofs.Declared.{IsDcb, NamesDcb, are_declared}
-use Rattle.job_run.proofs.Opens.{HasDcbs, OpensDcbs, books_open}
+use Rattle.job_run.proofs.Opens.{HasDcbs, books_open}
 
 unit_numbered : (n : ℕ) (units : List UnitSaid) (u : UnitSaid) → slice_get units n ≡ Some u → numbered n units ≡ Ok u
 unfolding numbered
@@ -92,19 +90,19 @@ module _ (s : SetUpSaid) (unit : ℕ) (H : List Entry) (declared : UnitSaid) (at
   requests_open task k (e ∷ es) each = (each.0, requests_open task (k + 1) es each.1)
 
 -- what holds of each request of its task holds of a request
-of_its_task : (P : Piece → Type 0) (order : List Piece) (at : ℕ) (r : Piece) → Each P (of task_of (task_of r) order) →
+of_its_task : (P : Piece → Type 0) (order : List Piece) (at : ℕ) (r : Piece) → Each P (of_sender task_of (task_of r) order) →
     slice_get order at ≡ Some r → P r
 of_its_task P [] at r each is = absurd (cc is)
 of_its_task P (x ∷ order) zero r each is =
     let same : x ≡ r = cc is in
     let own : (task_of x == task_of r) ≡ true = eq-eqb (task_of x) (task_of r) (ap (λ (y : Piece). task_of y) same) in
     subst P same (first (task_of x == task_of r) own each) where
-      first : (b : Bool) → b ≡ true → Each P (if b then x ∷ of task_of (task_of r) order else of task_of (task_of r) order) → P x
+      first : (b : Bool) → b ≡ true → Each P (if b then x ∷ of_sender task_of (task_of r) order else of_sender task_of (task_of r) order) → P x
       first true own each = each.0
       first false own each = absurd cc
 of_its_task P (x ∷ order) (suc at) r each is = of_its_task P order at r (rest (task_of x == task_of r) each) is where
-  rest : (b : Bool) → Each P (if b then x ∷ of task_of (task_of r) order else of task_of (task_of r) order) →
-      Each P (of task_of (task_of r) order)
+  rest : (b : Bool) → Each P (if b then x ∷ of_sender task_of (task_of r) order else of_sender task_of (task_of r) order) →
+      Each P (of_sender task_of (task_of r) order)
   rest true each = each.1
   rest false each = each
 
@@ -113,7 +111,7 @@ pub purged_after_errors : PurgesAfterErrors
 purged_after_errors unit order posts at r v q code =
     let open_ones = books_open q.given q.capacity q.s q.books q.mounted unit q.first q.is_first in
     let few : task_of r < q.s.set_up.tasks = Each-at (λ x. task_of x < q.s.set_up.tasks) order at r q.is_order.of_tasks q.request in
-    let each : Each (λ x. is_opened x.dcb q.first.trace ≡ true) (of task_of (task_of r) order) =
+    let each : Each (λ x. is_opened x.dcb q.first.trace ≡ true) (of_sender task_of (task_of r) order) =
     subst (Each (λ x. is_opened x.dcb q.first.trace ≡ true)) (sym (q.is_order.of_each (task_of r) few))
     (requests_open q.s.set_up unit q.first.trace open_ones.declared open_ones.is open_ones.has (task_of r) 1
     (excps (task_of r) unit q.s.commands)

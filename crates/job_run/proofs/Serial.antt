@@ -44,13 +44,13 @@ one_way s orders are one =
 pub is_one_at_a_time : (given : List (Option AnyDevice)) (s : Said) (books : List (Book AnyDevice)) → AreBegunWith given s books →
     Ran s books → AsksNothing s → (text : List ℕ) → text ≡ posts_text s books → IsOneAtATime given s text
 is_one_at_a_time given s books began ran unasked text is =
-    let first : List (Book AnyDevice) = map (sized 1) began.first in
-    let mounted : books_with given 1 s ≡ Ok first = books_for given 1 began.capacity s began.first began.mounted in
+    let first : List (Book AnyDevice) = map (sized 1) began.first_books in
+    let mounted : books_with given 1 s ≡ Ok first = books_for given 1 began.capacity s began.first_books began.mounted in
     let are = arrived_orders s books ran in
     let serves : text ≡ serial_text s first (arrived books) =
-    is ∙ serves_serially given s books began ran unasked ∙ sym (text_sized s 1 began.first (arrived books)) in
+    is ∙ serves_serially given s books began ran unasked ∙ sym (text_sized s 1 began.first_books (arrived books)) in
     record {
-      first = first;
+      first_books = first;
       mounted = mounted;
       orders = arrived books;
       are_orders = are;

@@ -11,7 +11,7 @@ use Rattle.job_run.specs.Controls.{AreControlledAs}
 -- resets of each book are those of the script's commands at its unit, each task's in order, but for those that made no entry
 pub record AreBegunWith (given : List (Option AnyDevice)) (s : Said) (books : List (Book AnyDevice)) : Type 0 where
   pub capacity : ℕ
-  pub first : List (Book AnyDevice)
-  pub mounted : books_with given capacity s ≡ Ok first
-  pub began : AreBegun first books
-  pub controlled : AreControlledAs s first books
+  pub first_books : List (Book AnyDevice)
+  pub mounted : books_with given capacity s ≡ Ok first_books
+  pub began : AreBegun first_books books
+  pub controlled : AreControlledAs s first_books books

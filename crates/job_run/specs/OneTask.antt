@@ -32,5 +32,5 @@ unit_after_unit s unit (suc units) = task_after_task s.commands unit 0 s.set_up.
 -- task one at a time. Its books have room for one request at a time
 abbrev pub expected_text : List (Option AnyDevice) → Said → Result (List ℕ) FaultAt
 expected_text given s = do
-  first ← books_with given 1 s
-  Ok (serial_text s first (unit_after_unit s 0 (length s.set_up.units)))
+  first_books ← books_with given 1 s
+  Ok (serial_text s first_books (unit_after_unit s 0 (length s.set_up.units)))

@@ -3,7 +3,7 @@ use Rattle.std.specs.Prelude.{◌≡◌, ◌<◌, ℕ, Bool, true, false, Some, 
 use Rattle.std.specs.List.{list_any}
 use Rattle.request_piece.specs.declared.piece.Piece.{Piece}
 use Rattle.unit_book.specs.Lists.{Each}
-use Rattle.fifo_row.specs.Lists.{of}
+use Rattle.fifo_row.specs.Lists.{of_sender}
 use Rattle.excp_system.specs.Sites.{task_of}
 use Rattle.job_script.specs.Said.{ActionSaid, Said, close, excp, purge, purge_task, reset, wait}
 use Rattle.job_run.specs.Requests.{excps, requests_from}
@@ -23,7 +23,7 @@ AsksNothing s = list_any (λ c. asks_control c.action) s.commands ≡ false
 
 -- AN ORDER of the requests to a unit: it has each task's requests to the unit, in the order of the task, and no others
 pub record IsOrder (s : Said) (unit : ℕ) (order : List Piece) : Type 0 where
-  pub of_each : (task : ℕ) → task < s.set_up.tasks → of task_of task order ≡ requests_from task 1 (excps task unit s.commands)
+  pub of_each : (task : ℕ) → task < s.set_up.tasks → of_sender task_of task order ≡ requests_from task 1 (excps task unit s.commands)
   pub of_tasks : Each (λ r. task_of r < s.set_up.tasks) order
 
 -- an order for each unit of the script

@@ -6,7 +6,7 @@ use Rattle.any_device.specs.Devices.{any_device}
 use Rattle.any_device.specs.declared.device.AnyDevice.{AnyDevice}
 use Rattle.unit_book.specs.Book.{Book}
 use Rattle.unit_book.specs.Posts.{posted}
-use Rattle.fifo_row.specs.Lists.{of}
+use Rattle.fifo_row.specs.Lists.{of_sender}
 use Rattle.excp_system.specs.Sites.{for_task}
 use Rattle.job_script.specs.Said.{ActionSaid, CommandSaid, ExcpSaid, Said, excp}
 use Rattle.post_lines.specs.Slots.{SlotState, posted_end, shown_in, slots_of}
@@ -16,7 +16,7 @@ use Rattle.job_run.specs.Requests.{excps}
 
 -- what a unit posted for a task, in order
 abbrev pub posts_for : ℕ → Book AnyDevice → List PostedState
-posts_for task b = of for_task task (posted any_device b.mounted b.trace)
+posts_for task b = of_sender for_task task (posted any_device b.mounted b.trace)
 
 -- the first of these posts with a number
 abbrev pub first_numbered : ℕ → List PostedState → Option PostedState

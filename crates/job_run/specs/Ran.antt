@@ -9,7 +9,7 @@ use Rattle.unit_book.specs.Lists.{Each}
 use Rattle.unit_book.specs.Settle.{IsIdle}
 use Rattle.unit_book.specs.Trace.{arrivals}
 use Rattle.unit_book.specs.WorldLaws.{posts_of}
-use Rattle.fifo_row.specs.Lists.{of}
+use Rattle.fifo_row.specs.Lists.{of_sender}
 use Rattle.excp_system.specs.Sites.{task_of}
 use Rattle.job_script.specs.Said.{Said}
 use Rattle.serial_order.specs.Laws.{IsUncontrolled}
@@ -29,7 +29,7 @@ pub record Ran (s : Said) (books : List (Book AnyDevice)) : Type 0 where
   pub idle : All (λ b. IsIdle b.trace) books
   pub of_tasks : All (λ b. Each (λ r. task_of r < s.set_up.tasks) (arrivals b.trace)) books
   pub received : (t u : ℕ) (b : Book AnyDevice) → t < s.set_up.tasks → slice_get books u ≡ Some b →
-      of task_of t (arrivals b.trace) ≡ requests_from t 1 (excps t u s.commands)
+      of_sender task_of t (arrivals b.trace) ≡ requests_from t 1 (excps t u s.commands)
   pub posted_once : (t u : ℕ) (b : Book AnyDevice) → t < s.set_up.tasks → slice_get books u ≡ Some b →
       Each (λ r. posts_of r.name b.trace ≡ 1) (requests_from t 1 (excps t u s.commands))
   pub uncontrolled : (u : ℕ) (b : Book AnyDevice) → slice_get books u ≡ Some b → AsksNone s u → IsUncontrolled any_device b.mounted b.trace

@@ -18,11 +18,11 @@ use Rattle.job_run.specs.Serial.{serial_text}
 -- ONE AT A TIME: the units begin with the books of the script, and serve its requests one at a time in some order, which keeps
 -- each task's; this is their text. If one task uses each unit, it is the expected text
 pub record IsOneAtATime (given : List (Option AnyDevice)) (s : Said) (text : List ℕ) : Type 0 where
-  pub first : List (Book AnyDevice)
-  pub mounted : books_with given 1 s ≡ Ok first
+  pub first_books : List (Book AnyDevice)
+  pub mounted : books_with given 1 s ≡ Ok first_books
   pub orders : List (List Piece)
   pub are_orders : AreOrders s orders
-  pub text_is : text ≡ serial_text s first orders
+  pub text_is : text ≡ serial_text s first_books orders
   pub expected : AreOfOneTask s → expected_text given s ≡ Ok text
 
 -- the text of a run, by what its tasks left

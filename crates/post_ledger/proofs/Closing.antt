@@ -14,7 +14,7 @@ use Rattle.unit_book.specs.Settle.{IsIdle}
 use Rattle.unit_book.specs.Trace.{arrivals}
 use Rattle.unit_book.specs.WorldLaws.{FinishedOnce, posts_of}
 use Rattle.unit_book.proofs.Facts.{Each-filter, Each-weaker}
-use Rattle.fifo_row.specs.Lists.{of}
+use Rattle.fifo_row.specs.Lists.{of_sender}
 use Rattle.excp_system.specs.Begun.{AreBegun, Began}
 use Rattle.excp_system.specs.Drained.{ArePlaced, Drained, IsDrained}
 use Rattle.excp_system.specs.Sites.{SiteRows, task_of, for_task}
@@ -54,8 +54,8 @@ module _ {D : Type 0} (meaning : Meaning D) (units : List (Locked D)) (tasks : L
       subst (All Of) (sym are)
       (all_map book_of Of units
       (all_weaker (λ (v : Locked D). AreOf s v.unit (arrivals v.book.trace)) (λ (v : Locked D). Of v.book) units
-      (λ v of. Each-weaker (λ (r : Piece). (r.name.task < s.tasks) × (r.unit ≡ v.unit)) (λ (r : Piece). task_of r < s.tasks)
-      (λ r is. is.0) (arrivals v.book.trace) of) all))
+      (λ v of_sender. Each-weaker (λ (r : Piece). (r.name.task < s.tasks) × (r.unit ≡ v.unit)) (λ (r : Piece). task_of r < s.tasks)
+      (λ r is. is.0) (arrivals v.book.trace) of_sender) all))
 
   pub controls : (own_calls : Bool) (opened : List (Book D)) → AreControlled own_calls opened units tasks →
       Controls own_calls opened report tasks
@@ -65,7 +65,7 @@ module _ {D : Type 0} (meaning : Meaning D) (units : List (Locked D)) (tasks : L
 
   module _ (settled : AreSettled meaning units tasks) where
     pub received : Received report tasks
-    received u t b w e e' = let v = unit_at u b e in ap (λ (x : Book D). of task_of t (arrivals x.trace)) v.2 ∙ (settled u t v.0 w v.1 e').0
+    received u t b w e e' = let v = unit_at u b e in ap (λ (x : Book D). of_sender task_of t (arrivals x.trace)) v.2 ∙ (settled u t v.0 w v.1 e').0
 
     pub posted_once : FinishedOnce meaning → AreLegal meaning report → AreIdle report → PostedOnce report tasks
     posted_once law legal idle u t b w e e' =
@@ -89,5 +89,5 @@ module _ {D : Type 0} (meaning : Meaning D) (units : List (Locked D)) (tasks : L
         ap (λ l. before ++ list_of (lists_of l t) u) same
         ∙ (sym got
         ∙ ((settled u t v.0 w v.1 e').1
-        ∙ (ap (of for_task t) (all_given v.0 s d.out)
-        ∙ ap (λ (x : Book D). of for_task t (posted meaning x.mounted x.trace)) (sym v.2))))
+        ∙ (ap (of_sender for_task t) (all_given v.0 s d.out)
+        ∙ ap (λ (x : Book D). of_sender for_task t (posted meaning x.mounted x.trace)) (sym v.2))))

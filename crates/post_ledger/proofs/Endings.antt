@@ -8,7 +8,7 @@ use Rattle.request_piece.specs.PostedState.{PostedState}
 use Rattle.unit_book.specs.Book.{Book}
 use Rattle.unit_book.specs.Lists.{Each}
 use Rattle.unit_book.specs.WorldLaws.{posts_of}
-use Rattle.fifo_row.specs.Lists.{of}
+use Rattle.fifo_row.specs.Lists.{of_sender}
 use Rattle.fifo_row.proofs.Filters.{of-append}
 use Rattle.signed_list.specs.Signed.{signed_by}
 use Rattle.excp_system.specs.Controls.{asked_of}
@@ -52,9 +52,9 @@ module _ {D : Type 0} (units : ℕ) (first tasks : List TaskState) (before after
   returned_first meaning count r u t b w e e' front got =
       let v = later t w e' in
       let lt : u < units = omega (arith, slice_get_within report.books u b e, count) in
-      let more = of unit_of u v.2.values in
+      let more = of_sender unit_of u v.2.values in
       r u t b v.0 e v.1 front
-      (ap (λ (x : TaskState). of unit_of u x.got) v.2.task
+      (ap (λ (x : TaskState). of_sender unit_of u x.got) v.2.task
       ∙ (of-append unit_of u w.got v.2.values
       ∙ (ap (λ l. l ++ more) got
       ∙ (append_assoc front (list_of (lists_of before t) u) more

@@ -9,7 +9,7 @@ use Rattle.std.proofs.Math.ListN.{length-set}
 use mathlib.Core.Logic.{dite}
 use native.Mathlib.Decide.{ℕ_discrete}
 use Rattle.fifo_row.specs.Ends.{Sending, Taking}
-use Rattle.fifo_row.specs.Lists.{of, BeginsWith}
+use Rattle.fifo_row.specs.Lists.{of_sender, BeginsWith}
 use Rattle.excp_system.proofs.Places.{get_set_same, get_set_other, get_seam, some_is}
 use Rattle.excp_system.specs.Sites.{ReachedRows, end_of}
 use Rattle.excp_system.specs.Fans.{FanState, sent_to}
@@ -27,7 +27,7 @@ pub record Turn {I : Type 0} (from : I → ℕ) (k t : ℕ) (taken : List I) (ol
   pub count : length now ≡ length old
   pub before : (j : ℕ) (f : FanState I) → j < t → slice_get old j ≡ Some f → slice_get now j ≡ Some (shorter k f)
   pub after : (j : ℕ) → t ≤ j → slice_get now j ≡ slice_get old j
-  pub done : (j : ℕ) (f : FanState I) → j < t → slice_get old j ≡ Some f → of from j taken ≡ sent_to f k
+  pub done : (j : ℕ) (f : FanState I) → j < t → slice_get old j ≡ Some f → of_sender from j taken ≡ sent_to f k
 
 module _ {I : Type 0} (from : I → ℕ) (r : ReachedRows) (k t : ℕ) (taken : List I) (old now : List (FanState I))
     (turn : Turn from k t taken old now) (d : AreDrained from taken k old) (lt : t < length now) (f : FanState I)
@@ -60,11 +60,11 @@ module _ {I : Type 0} (from : I → ℕ) (r : ReachedRows) (k t : ℕ) (taken : 
           ∙ (ap (λ j. take j (f'.sent ++ s.sent ∷ [])) (sym left) ∙ take-append_seam f'.sent (s.sent ∷ []))) i;
     }
 
-    pub next_turn : BeginsWith (of from s.number taken) s.sent → Turn from k (t + 1) taken old (set now t f')
+    pub next_turn : BeginsWith (of_sender from s.number taken) s.sent → Turn from k (t + 1) taken old (set now t f')
     next_turn begins =
-        let begins' : BeginsWith (of from t taken) s.sent = subst (λ j. BeginsWith (of from j taken) s.sent) number_is begins in
-        let long : length s.sent ≡ length (of from t taken) = ap length (sym last_is) ∙ (d t f there).drained in
-        let mine : of from t taken ≡ s.sent = whole (of from t taken) s.sent begins' long in
+        let begins' : BeginsWith (of_sender from t taken) s.sent = subst (λ j. BeginsWith (of_sender from j taken) s.sent) number_is begins in
+        let long : length s.sent ≡ length (of_sender from t taken) = ap length (sym last_is) ∙ (d t f there).drained in
+        let mine : of_sender from t taken ≡ s.sent = whole (of_sender from t taken) s.sent begins' long in
         record {
           count = length-set now t f' ∙ turn.count;
           before = λ j g below e. dite (ℕ_discrete j t)
@@ -77,13 +77,13 @@ module _ {I : Type 0} (from : I → ℕ) (r : ReachedRows) (k t : ℕ) (taken : 
           done = λ j g below e. dite (ℕ_discrete j t)
               (λ same.
               let is : g ≡ f = some_is g f (sym e ∙ (ap (slice_get old) same ∙ there)) in
-              ap (λ i. of from i taken) same ∙ (mine ∙ (sym last_is ∙ ap (λ (h : FanState I). sent_to h k) (sym is))))
+              ap (λ i. of_sender from i taken) same ∙ (mine ∙ (sym last_is ∙ ap (λ (h : FanState I). sent_to h k) (sym is))))
               (λ ne. turn.done j g (omega (arith, ne)) e);
         }
 
 module _ {I : Type 0} (from : I → ℕ) (k t : ℕ) (taken : List I) (old now : List (FanState I)) (turn : Turn from k t taken old now)
     (end : length old ≤ t) where
-  pub all_done : (j : ℕ) (f : FanState I) → slice_get old j ≡ Some f → of from j taken ≡ sent_to f k
+  pub all_done : (j : ℕ) (f : FanState I) → slice_get old j ≡ Some f → of_sender from j taken ≡ sent_to f k
   all_done j f e = turn.done j f (omega (arith, slice_get_within old j f e)) e
 
   pub all_shorter : (j : ℕ) (f : FanState I) → slice_get old j ≡ Some f → slice_get now j ≡ Some (shorter k f)
@@ -95,7 +95,7 @@ pub record Rest {I : Type 0} (from : I → ℕ) (takers₀ takers : List (Taking
   pub count : length fans ≡ length fans₀
   pub fans_are : (t : ℕ) (f : FanState I) → slice_get fans₀ t ≡ Some f → slice_get fans t ≡ Some (shorter (length takers) f)
   pub done : (k t : ℕ) (w : Taking I) (f : FanState I) → length takers ≤ k → slice_get takers₀ k ≡ Some w → slice_get fans₀ t ≡ Some f →
-      of from t w.taken ≡ sent_to f k
+      of_sender from t w.taken ≡ sent_to f k
 
 get_front : {A : Type 0} (xs ys : List A) (k : ℕ) (a : A) → slice_get xs k ≡ Some a → slice_get (xs ++ ys) k ≡ Some a
 get_front [] ys k a e = absurd (cc e)
@@ -153,7 +153,7 @@ module _ {I : Type 0} (from : I → ℕ) (r : ReachedRows) (takers₀ : List (Ta
         }
 
     pub rest_next : (fans' : List (FanState I)) →
-        ((t : ℕ) (f : FanState I) → slice_get fans t ≡ Some f → of from t w.taken ≡ sent_to f (length before))
+        ((t : ℕ) (f : FanState I) → slice_get fans t ≡ Some f → of_sender from t w.taken ≡ sent_to f (length before))
         → ((t : ℕ) (f : FanState I) → slice_get fans t ≡ Some f → slice_get fans' t ≡ Some (shorter (length before) f)) →
         length fans' ≡ length fans
         → Rest from takers₀ before fans₀ fans'
@@ -167,7 +167,7 @@ module _ {I : Type 0} (from : I → ℕ) (r : ReachedRows) (takers₀ : List (Ta
           (λ same.
           let is : w ≡ u = some_is w u (sym here ∙ (ap (slice_get takers₀) (sym same) ∙ e)) in
           let at = rest.fans_are t f e' ∙ ap (λ n. Some (shorter n f)) long in
-          ap (λ (v : Taking I). of from t v.taken) (sym is)
+          ap (λ (v : Taking I). of_sender from t v.taken) (sym is)
           ∙ (all t (shorter (length before + 1) f) at
           ∙ (get_or-take (length before + 1) f.sent (length before) [] (omega arith) ∙ ap (λ j. sent_to f j) (sym same))))
           (λ ne. rest.done k t u f (omega (arith, long, ne)) e e');

@@ -10,7 +10,7 @@ use Rattle.request_piece.specs.declared.piece.Piece.{Piece}
 use Rattle.unit_book.specs.Book.{given}
 use Rattle.unit_book.specs.Trace.{arrivals}
 use Rattle.fifo_row.specs.Ends.{Taking}
-use Rattle.fifo_row.specs.Lists.{of}
+use Rattle.fifo_row.specs.Lists.{of_sender}
 use Rattle.excp_system.specs.Drained.{ArePlaced, Drained, IsDrained, IsTaken}
 use Rattle.excp_system.specs.Fans.{FanState, sent_to}
 use Rattle.excp_system.specs.Sites.{SiteRows, intake_rows, post_rows, task_of, unit_of, for_task}
@@ -26,16 +26,16 @@ module _ {D : Type 0} (meaning : Meaning D) (s : SiteRows) (units : List (Locked
   taken u t v w e e' = all_get (IsTaken meaning v) tasks t w (all_get (IsDrained meaning tasks) units u v done e).taken e'
 
   requests : (u t : ℕ) (v : Locked D) (w : TaskState) → slice_get units u ≡ Some v → slice_get tasks t ≡ Some w →
-      length (sent_by w u) ≡ length (of task_of t (arrivals v.book.trace))
+      length (sent_by w u) ≡ length (of_sender task_of t (arrivals v.book.trace))
   requests u t v w e e' =
       ap (λ n. length (sent_by w n)) (sym (here.each u v e))
-      ∙ (sym (taken u t v w e e').requests ∙ ap (λ n. length (of task_of n (arrivals v.book.trace))) (there.each t w e'))
+      ∙ (sym (taken u t v w e e').requests ∙ ap (λ n. length (of_sender task_of n (arrivals v.book.trace))) (there.each t w e'))
 
   values : (u t : ℕ) (v : Locked D) (w : TaskState) → slice_get units u ≡ Some v → slice_get tasks t ≡ Some w →
-      length (of for_task t (given meaning v.book)) ≡ length (of unit_of u w.got)
+      length (of_sender for_task t (given meaning v.book)) ≡ length (of_sender unit_of u w.got)
   values u t v w e e' =
-      ap (λ n. length (of for_task n (given meaning v.book))) (sym (there.each t w e'))
-      ∙ (sym (taken u t v w e e').values ∙ ap (λ n. length (of unit_of n w.got)) (here.each u v e))
+      ap (λ n. length (of_sender for_task n (given meaning v.book))) (sym (there.each t w e'))
+      ∙ (sym (taken u t v w e e').values ∙ ap (λ n. length (of_sender unit_of n w.got)) (here.each u v e))
 
   -- the intake rows
   pub intake_ends : All (λ (w : TaskState). length w.sent ≡ s.units) tasks →
@@ -53,11 +53,11 @@ module _ {D : Type 0} (meaning : Meaning D) (s : SiteRows) (units : List (Locked
         let m = get_map (intake_end s) units k w e in
         let n = get_map out_of tasks t f e' in
         ap (λ (x : FanState Piece). length (sent_to x k)) n.2
-        ∙ (requests k t m.0 n.0 m.1 n.1 ∙ ap (λ (x : Taking Piece). length (of task_of t x.taken)) (sym m.2));
+        ∙ (requests k t m.0 n.0 m.1 n.1 ∙ ap (λ (x : Taking Piece). length (of_sender task_of t x.taken)) (sym m.2));
   }
 
   pub requests_settled : AllTaken task_of (map (intake_end s) units) (map out_of tasks) → (u t : ℕ) (v : Locked D) (w : TaskState) →
-      slice_get units u ≡ Some v → slice_get tasks t ≡ Some w → of task_of t (arrivals v.book.trace) ≡ sent_by w u
+      slice_get units u ≡ Some v → slice_get tasks t ≡ Some w → of_sender task_of t (arrivals v.book.trace) ≡ sent_by w u
   requests_settled all u t v w e e' = all u t (intake_end s v) (out_of w) (map_get (intake_end s) units u v e) (map_get out_of tasks t w e')
 
   module _ (fans : List (FanState PostedState)) (paired : Paired (IsBack meaning s) units fans) where
@@ -75,11 +75,11 @@ module _ {D : Type 0} (meaning : Meaning D) (s : SiteRows) (units : List (Locked
           let v = get_there units fans t f paired.count e' in
           let lt : k < s.tasks = omega (arith, slice_get_within tasks k m.0 m.1, there.count_is) in
           ap length ((paired.each t v.0 f v.1 e').sent k lt)
-          ∙ (values t k v.0 m.0 v.1 m.1 ∙ ap (λ (x : Taking PostedState). length (of unit_of t x.taken)) (sym m.2));
+          ∙ (values t k v.0 m.0 v.1 m.1 ∙ ap (λ (x : Taking PostedState). length (of_sender unit_of t x.taken)) (sym m.2));
     }
 
     pub posts_settled : AllTaken unit_of (map (post_end s) tasks) fans → (u t : ℕ) (v : Locked D) (w : TaskState) →
-        slice_get units u ≡ Some v → slice_get tasks t ≡ Some w → of unit_of u w.got ≡ of for_task t (given meaning v.book)
+        slice_get units u ≡ Some v → slice_get tasks t ≡ Some w → of_sender unit_of u w.got ≡ of_sender for_task t (given meaning v.book)
     posts_settled all u t v w e e' =
         let f = get_there fans units u v (sym paired.count) e in
         let lt : t < s.tasks = omega (arith, slice_get_within tasks t w e', there.count_is) in

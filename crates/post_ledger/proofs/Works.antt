@@ -20,7 +20,7 @@ use Rattle.unit_book.specs.Dcbs.{doomed}
 use Rattle.unit_book.specs.Dooms.{all_posted, after_dooms}
 use Rattle.unit_book.specs.Settle.{AddsService, is_service}
 use Rattle.unit_book.proofs.Lists.{all-append, all-weaker}
-use Rattle.fifo_row.specs.Lists.{of}
+use Rattle.fifo_row.specs.Lists.{of_sender}
 use Rattle.fifo_row.proofs.Filters.{of-append, of-snoc_same, of-snoc_other}
 use Rattle.excp_system.proofs.Places.{get_set_other, index_replicate, some_is}
 use Rattle.excp_system.specs.Drained.{ArePlaced}
@@ -135,8 +135,8 @@ module _ (units : ℕ) where
     task = y.task ∙ (λ i. record (x.task i) { got = (x.task i).got ++ y.values })
         ∙ (λ i. record a { got = append_assoc a.got x.values y.values i });
     lists = λ u lt.
-        y.lists u lt ∙ ap (λ z. z ++ of unit_of u y.values) (x.lists u lt)
-        ∙ append_assoc (list_of k u) (of unit_of u x.values) (of unit_of u y.values)
+        y.lists u lt ∙ ap (λ z. z ++ of_sender unit_of u y.values) (x.lists u lt)
+        ∙ append_assoc (list_of k u) (of_sender unit_of u x.values) (of_sender unit_of u y.values)
         ∙ ap (λ z. list_of k u ++ z) (sym (of-append unit_of u x.values y.values));
   }
 
@@ -233,7 +233,7 @@ module _ (units : ℕ) where
     count = c.count;
     each = λ t w v e e'.
         let x = c.each t w v e e' in
-        record { values = x.values; task = x.task; lists = λ u lt. x.lists u lt ∙ ap (λ z. z ++ of unit_of u x.values) (same t u) };
+        record { values = x.values; task = x.task; lists = λ u lt. x.lists u lt ∙ ap (λ z. z ++ of_sender unit_of u x.values) (same t u) };
   }
 
 -- empty lists of one task more

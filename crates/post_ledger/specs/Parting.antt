@@ -9,7 +9,7 @@ use Rattle.unit_book.specs.Legal.{Legal}
 use Rattle.unit_book.specs.Posts.{posted}
 use Rattle.unit_book.specs.Trace.{arrivals}
 use Rattle.fifo_row.specs.Ends.{Taking}
-use Rattle.fifo_row.specs.Lists.{of}
+use Rattle.fifo_row.specs.Lists.{of_sender}
 use Rattle.excp_system.specs.Sites.{SiteRows, intake_rows, post_rows, task_of, unit_of, for_task, taker_of}
 use Rattle.signed_list.specs.Signed.{items_of, signed_by}
 use Rattle.excp_system.specs.declared.control.Control.{Control}
@@ -69,13 +69,13 @@ module _ {D : Type 0} (meaning : Meaning D) where
   pub record IsBack (s : SiteRows) (v : Locked D) (f : FanState PostedState) : Type 0 where
     pub number_is : f.number ≡ v.unit
     pub count : length f.sent ≡ s.tasks
-    pub sent : (task : ℕ) → task < s.tasks → sent_to f task ≡ of for_task task (given meaning v.book)
+    pub sent : (task : ℕ) → task < s.tasks → sent_to f task ≡ of_sender for_task task (given meaning v.book)
 
   -- of each task and unit: what arrived is what the task sent, and what the task collected is what the book gave
   abbrev pub AreSettled : List (Locked D) → List TaskState → Type 0
   AreSettled units tasks = (u t : ℕ) (v : Locked D) (w : TaskState) →
       slice_get units u ≡ Some v → slice_get tasks t ≡ Some w →
-      (of task_of t (arrivals v.book.trace) ≡ sent_by w u) × (of unit_of u w.got ≡ of for_task t (given meaning v.book))
+      (of_sender task_of t (arrivals v.book.trace) ≡ sent_by w u) × (of_sender unit_of u w.got ≡ of_sender for_task t (given meaning v.book))
 
 -- of each unit: whose its controls are
 abbrev pub AreControlled : {D : Type 0} → Bool → List (Book D) → List (Locked D) → List TaskState → Type 0

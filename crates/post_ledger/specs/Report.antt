@@ -11,7 +11,7 @@ use Rattle.unit_book.specs.Posts.{posted}
 use Rattle.unit_book.specs.Settle.{IsIdle}
 use Rattle.unit_book.specs.Trace.{arrivals}
 use Rattle.unit_book.specs.WorldLaws.{posts_of}
-use Rattle.fifo_row.specs.Lists.{of}
+use Rattle.fifo_row.specs.Lists.{of_sender}
 use Rattle.excp_system.specs.Sites.{task_of, unit_of, for_task}
 use Rattle.excp_system.specs.States.{TaskState, sent_by}
 use Rattle.post_ledger.specs.Parting.{ControlledBy}
@@ -39,7 +39,7 @@ OfEach {D} P report tasks = (u t : ℕ) (b : Book D) (w : TaskState) →
 
 -- RECEIVED: what arrived of a task at a unit is what the task sent there, in order
 abbrev pub Received : {D : Type 0} → ReportState D → List TaskState → Type 0
-Received {D} report tasks = OfEach (λ u t b w. of task_of t (arrivals b.trace) ≡ sent_by w u) report tasks
+Received {D} report tasks = OfEach (λ u t b w. of_sender task_of t (arrivals b.trace) ≡ sent_by w u) report tasks
 
 -- POSTED ONCE: each request that a task sent has one post
 abbrev pub PostedOnce : {D : Type 0} → ReportState D → List TaskState → Type 0
@@ -53,13 +53,13 @@ module _ {D : Type 0} (meaning : Meaning D) where
   -- RETURNED: what a task had collected of a unit, and then its list in the report, is what the unit posted for it
   abbrev pub Returned : ReportState D → List TaskState → Type 0
   Returned report tasks =
-      OfEach (λ u t b w. of unit_of u w.got ++ list_at report t u ≡ of for_task t (posted meaning b.mounted b.trace)) report tasks
+      OfEach (λ u t b w. of_sender unit_of u w.got ++ list_at report t u ≡ of_sender for_task t (posted meaning b.mounted b.trace)) report tasks
 
   -- RETURNED, while a report is made: what `lists` hold was collected for it already, and the rest is in the report
   abbrev pub ReturnedRest : List (List (List PostedState)) → ReportState D → List TaskState → Type 0
   ReturnedRest lists report tasks =
-      OfEach (λ u t b w. (before : List PostedState) → of unit_of u w.got ≡ before ++ list_of (lists_of lists t) u →
-      before ++ list_at report t u ≡ of for_task t (posted meaning b.mounted b.trace)) report tasks
+      OfEach (λ u t b w. (before : List PostedState) → of_sender unit_of u w.got ≡ before ++ list_of (lists_of lists t) u →
+      before ++ list_at report t u ≡ of_sender for_task t (posted meaning b.mounted b.trace)) report tasks
 
 -- CONTROLLED: the purges, closes and resets of a unit since its first book are those that the tasks asked of it, and those
 -- of its own calls, if these may be used, but for those that made no entry

@@ -1,7 +1,7 @@
 -- The ends of several rows, and what has come of them.
 use Rattle.std.specs.Prelude.{◌≡◌, ◌+◌, ℕ, List, length, take, Some, slice_get}
 use Rattle.fifo_row.specs.Ends.{Taking}
-use Rattle.fifo_row.specs.Lists.{of}
+use Rattle.fifo_row.specs.Lists.{of_sender}
 use Rattle.excp_system.specs.Sites.{ReachedRows}
 use Rattle.excp_system.specs.Fans.{FanState, sent_to}
 
@@ -10,7 +10,7 @@ use Rattle.excp_system.specs.Fans.{FanState, sent_to}
 pub record IsFanDrained {I : Type 0} (from : I → ℕ) (taken : List I) (k t : ℕ) (f : FanState I) : Type 0 where
   pub number_is : f.number ≡ t
   pub ends : length f.sent ≡ k + 1
-  pub drained : length (sent_to f k) ≡ length (of from t taken)
+  pub drained : length (sent_to f k) ≡ length (of_sender from t taken)
 
 abbrev pub AreDrained : {I : Type 0} → (I → ℕ) → List I → ℕ → List (FanState I) → Type 0
 AreDrained {I} from taken k fans = (t : ℕ) (f : FanState I) → slice_get fans t ≡ Some f → IsFanDrained from taken k t f
@@ -26,9 +26,9 @@ pub record AreEnds {I : Type 0} (from : I → ℕ) (r : ReachedRows) (takers : L
   pub numbers : (t : ℕ) (f : FanState I) → slice_get fans t ≡ Some f →
       (f.number ≡ t) × (length f.sent ≡ length takers)
   pub drained : (k t : ℕ) (w : Taking I) (f : FanState I) → slice_get takers k ≡ Some w → slice_get fans t ≡ Some f →
-      length (sent_to f k) ≡ length (of from t w.taken)
+      length (sent_to f k) ≡ length (of_sender from t w.taken)
 
 -- of each sender, what was taken from each row is what it sent into it
 abbrev pub AllTaken : {I : Type 0} → (I → ℕ) → List (Taking I) → List (FanState I) → Type 0
 AllTaken {I} from takers fans = (k t : ℕ) (w : Taking I) (f : FanState I) →
-    slice_get takers k ≡ Some w → slice_get fans t ≡ Some f → of from t w.taken ≡ sent_to f k
+    slice_get takers k ≡ Some w → slice_get fans t ≡ Some f → of_sender from t w.taken ≡ sent_to f k

@@ -5,7 +5,7 @@ use Rattle.request_piece.specs.PostedState.{PostedState}
 use Rattle.unit_book.specs.declared.entry.Entry.{Entry}
 use Rattle.unit_book.specs.declared.entry.Entry.TheVariants.{Arrive, Start, Ran, Post}
 use Rattle.unit_book.specs.Book.{Book}
-use Rattle.fifo_row.specs.Lists.{of}
+use Rattle.fifo_row.specs.Lists.{of_sender}
 use Rattle.excp_system.specs.Sites.{unit_of}
 use Rattle.excp_system.specs.States.{Locked, TaskState}
 
@@ -45,7 +45,7 @@ lists_of posts task = slice_index_or posts task []
 pub record Gathers (units : ℕ) (old new : TaskState) (before after : List (List PostedState)) : Type 0 where
   pub values : List PostedState
   pub task : new ≡ record old { got = old.got ++ values }
-  pub lists : (unit : ℕ) → unit < units → list_of after unit ≡ list_of before unit ++ of unit_of unit values
+  pub lists : (unit : ℕ) → unit < units → list_of after unit ≡ list_of before unit ++ of_sender unit_of unit values
 
 -- each task has collected values, which are in its lists
 pub record CollectsAll (units : ℕ) (old new : List TaskState) (before after : List (List (List PostedState))) : Type 0 where

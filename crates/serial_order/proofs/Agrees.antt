@@ -3,7 +3,7 @@ use Rattle.unit_book.proofs.Names.{PostedState, ◌≡◌, ℕ, ◌+◌, ◌≤�
 use Rattle.unit_book.proofs.Names.{after, length_of, Piece, has_started, is_posted, active, starts_of, current, device, flag}
 use Rattle.unit_book.proofs.Names.{posted, Each}
 use Rattle.unit_book.specs.declared.entry.Entry.{Entry}
-use Rattle.serial_order.specs.OneAtATime.{Rest, without_start, is_turned_away, attempts_from, serve, rest_after}
+use Rattle.serial_order.specs.OneAtATime.{IdleUnit, without_start, is_turned_away, attempts_from, serve, unit_after}
 use Rattle.serial_order.specs.Laws.{value_of}
 
 -- a request waits
@@ -13,7 +13,7 @@ pub record Waits (H : List Entry) (r : Piece) : Type 0 where
 
 module _ {D : Type 0} (meaning : Meaning D) (mounted : D) where
   -- nothing is active, and the device and the flags of the trace are those of the unit
-  pub record Rests (H : List Entry) (u : Rest D) : Type 0 where
+  pub record Rests (H : List Entry) (u : IdleUnit D) : Type 0 where
     pub idle : active H ≡ None
     pub equals : device meaning mounted H ≡ u.device
     pub flags : (d : ℕ) → flag d H ≡ u.in_error d
@@ -25,16 +25,16 @@ module _ {D : Type 0} (meaning : Meaning D) (mounted : D) where
 
   module _ (openings : List Entry) where
     -- a request was posted 48 before its turn, and would be turned away in its turn too
-    pub record Away (H : List Entry) (u : Rest D) (r : Piece) : Type 0 where
+    pub record Away (H : List Entry) (u : IdleUnit D) (r : Piece) : Type 0 where
       pub away : is_turned_away openings u r ≡ true
       pub was : WasPosted H r (without_start u r Purged).value
 
     -- a request whose turn comes later
-    abbrev pub Later : List Entry → Rest D → Piece → Type 0
+    abbrev pub Later : List Entry → IdleUnit D → Piece → Type 0
     Later H u r = Waits H r ⊎ Away H u r
 
     -- a request is active: its newest attempt did some commands, and the attempts from it on give what serving the request gives
-    pub record Runs (H : List Entry) (u : Rest D) (r : Piece) : Type 0 where
+    pub record Runs (H : List Entry) (u : IdleUnit D) (r : Piece) : Type 0 where
       pub active : active H ≡ Some r.name
       pub flags : (d : ℕ) → flag d H ≡ u.in_error d
       pub left : ℕ
@@ -49,12 +49,12 @@ module _ {D : Type 0} (meaning : Meaning D) (mounted : D) where
       pub serving : serve meaning mounted openings u r ≡ attempts_from meaning mounted openings left number r begins
 
     -- the turn of a request: it was served, or is active, or is the first that waits
-    pub data Turn (H : List Entry) (u : Rest D) (r : Piece) (served unserved : Type 0) : Type 0 where
+    pub data Turn (H : List Entry) (u : IdleUnit D) (r : Piece) (served unserved : Type 0) : Type 0 where
       Was : WasPosted H r (serve meaning mounted openings u r).value → served → Turn H u r served unserved
       Is : Runs H u r → unserved → Turn H u r served unserved
       Will : Rests H u → Waits H r → unserved → Turn H u r served unserved
 
     -- THE TRACE AGREES with a unit that is to serve these requests
-    abbrev pub Agrees : List Entry → Rest D → List Piece → Type 0
+    abbrev pub Agrees : List Entry → IdleUnit D → List Piece → Type 0
     Agrees H u [] = Rests H u
-    Agrees H u (r ∷ rs) = Turn H u r (Agrees H (rest_after meaning mounted openings u r) rs) (Each (Later H u) rs)
+    Agrees H u (r ∷ rs) = Turn H u r (Agrees H (unit_after meaning mounted openings u r) rs) (Each (Later H u) rs)

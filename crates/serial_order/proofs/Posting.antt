@@ -14,7 +14,7 @@ use Rattle.unit_book.proofs.LegalFacts.{first-waits}
 use Rattle.unit_book.proofs.Runs.{device-current}
 use Rattle.unit_book.proofs.ActivePosts.{area-current}
 use Rattle.unit_book.proofs.Starts.{as-issued}
-use Rattle.serial_order.specs.OneAtATime.{Rest, Served, without_start, with_program, serve, rest_after}
+use Rattle.serial_order.specs.OneAtATime.{IdleUnit, Served, without_start, with_program, serve, unit_after}
 use Rattle.serial_order.specs.OneAtATime.{passes_extents, flags_after}
 use Rattle.serial_order.specs.Laws.{value_of}
 use Rattle.serial_order.proofs.Uncontrolled.{Uncontrolled, Tells, Told, doomed-is}
@@ -57,9 +57,9 @@ module _ {D : Type 0} (meaning : Meaning D) (mounted : D) (O : List Entry) {H : 
   }
 
   -- those of other names have their turns later, of the unit as it is then
-  later-post : (n : Name) (csw : Csw) (sense : ℕ) (code : Code) (u : Rest D) (q r : Piece) →
+  later-post : (n : Name) (csw : Csw) (sense : ℕ) (code : Code) (u : IdleUnit D) (q r : Piece) →
       (has_started r.name H ≡ false → same n r.name ≡ false) → Later meaning mounted O H u r →
-      Later meaning mounted O (Post n csw sense code ∷ H) (rest_after meaning mounted O u q) r
+      Later meaning mounted O (Post n csw sense code ∷ H) (unit_after meaning mounted O u q) r
   later-post n csw sense code u q r s (inl w) = inl (record { unstarted = w.unstarted; unposted = rw (s w.unstarted) w.unposted })
   later-post n csw sense code u q r s (inr a) = inr (record {
     away = away-next meaning mounted O u q r a.away;
@@ -67,11 +67,11 @@ module _ {D : Type 0} (meaning : Meaning D) (mounted : D) (O : List Entry) {H : 
   })
 
   -- THE UNIT AFTER A REQUEST was served with this value
-  rests-post : (u : Rest D) {r : Piece} (csw : Csw) (sense : ℕ) (code : Code) →
+  rests-post : (u : IdleUnit D) {r : Piece} (csw : Csw) (sense : ℕ) (code : Code) →
       ((d : ℕ) → flag d H ≡ u.in_error d) → Known H r → active (Post r.name csw sense code ∷ H) ≡ None →
       device meaning mounted H ≡ (serve meaning mounted O u r).device →
       (serve meaning mounted O u r).value.code ≡ code →
-      Rests meaning mounted (Post r.name csw sense code ∷ H) (rest_after meaning mounted O u r)
+      Rests meaning mounted (Post r.name csw sense code ∷ H) (unit_after meaning mounted O u r)
   unfolding attempts flag
   rests-post u {r} csw sense code flags known idle equals code_is = record {
     idle = idle;
@@ -96,7 +96,7 @@ module _ {D : Type 0} (meaning : Meaning D) (mounted : D) (O : List Entry) {H : 
   }
 
   -- THE POST OF THE ACTIVE REQUEST
-  final-served : {u : Rest D} {r : Piece} (csw : Csw) (sense : ℕ) (code : Code) (p : Runs meaning mounted O H u r) →
+  final-served : {u : IdleUnit D} {r : Piece} (csw : Csw) (sense : ℕ) (code : Code) (p : Runs meaning mounted O H u r) →
       active_phase meaning mounted r.name H ≡ HasEnded (record { csw = csw; sense = sense }) →
       verdict (meaning.kind mounted) csw sense (starts_of r.name H) ≡ Final code →
       ((serve meaning mounted O u r).device ≡ (current meaning mounted H).device)
@@ -111,7 +111,7 @@ module _ {D : Type 0} (meaning : Meaning D) (mounted : D) (O : List Entry) {H : 
         ap (λ (x : Served D). x.value) whole ∙ ap (λ (s : Status). posted_value r s.csw s.sense code cur.area) done.status_is,
       )
 
-  turn-ends : {csw : Csw} {sense : ℕ} {code : Code} (u : Rest D) (r : Piece) (rs : List Piece) → Facts H →
+  turn-ends : {csw : Csw} {sense : ℕ} {code : Code} (u : IdleUnit D) (r : Piece) (rs : List Piece) → Facts H →
       Ends meaning mounted H r.name csw sense code → Known H r → Runs meaning mounted O H u r → Each (Later meaning mounted O H u) rs →
       Agrees meaning mounted O (Post r.name csw sense code ∷ H) u (r ∷ rs)
   turn-ends {csw} {sense} {code} u r rs f e known p l = Was
@@ -120,7 +120,7 @@ module _ {D : Type 0} (meaning : Meaning D) (mounted : D) (O : List Entry) {H : 
       (rests-post u csw sense code p.flags known (active-post (record { csw = csw; sense = sense }) code H f e.busy)
       (device-current meaning mounted r.name H w ∙ sym v.0) code_is)
       (Each-weaker (Later meaning mounted O H u)
-      (Later meaning mounted O (Post r.name csw sense code ∷ H) (rest_after meaning mounted O u r))
+      (Later meaning mounted O (Post r.name csw sense code ∷ H) (unit_after meaning mounted O u r))
       (λ q. later-post r.name csw sense code u r q (other-name H r.name q.name b.0)) rs l)) where
         b : (has_started r.name H ≡ true) × (is_posted r.name H ≡ false)
         b = active-is r.name H e.busy
@@ -139,7 +139,7 @@ module _ {D : Type 0} (meaning : Meaning D) (mounted : D) (O : List Entry) {H : 
         code_is = ap (λ (x : PostedState). x.code) v.1 ∙ value-code r csw sense code (current meaning mounted H).area
 
   pub agrees-ends : {n : Name} {csw : Csw} {sense : ℕ} {code : Code} → Facts H → Ends meaning mounted H n csw sense code →
-      (u : Rest D) (rs : List Piece) →
+      (u : IdleUnit D) (rs : List Piece) →
       Each (Told O H) rs → Agrees meaning mounted O H u rs →
       Agrees meaning mounted O (Post n csw sense code ∷ H) u rs
   agrees-ends {n} {csw} {sense} {code} f e u rs k a = active-turn meaning mounted O (was-post n csw sense code) (Told O H)
@@ -149,7 +149,7 @@ module _ {D : Type 0} (meaning : Meaning D) (mounted : D) (O : List Entry) {H : 
       e.busy u rs k a
 
   -- THE POST OF THE FIRST THAT WAITS, which fails the extent check
-  turn-fails : {q : Piece} (u : Rest D) (rs : List Piece) → Tells O H q → Legal meaning mounted H → Facts H → Fails meaning mounted H q →
+  turn-fails : {q : Piece} (u : IdleUnit D) (rs : List Piece) → Tells O H q → Legal meaning mounted H → Facts H → Fails meaning mounted H q →
       Rests meaning mounted H u → none_named q.name rs ≡ true → Each (Later meaning mounted O H u) rs →
       Agrees meaning mounted O (Post q.name no_status 0 ExtentViolated ∷ H) u (q ∷ rs)
   turn-fails {q} u rs told l f e s apart later = Was
@@ -170,7 +170,7 @@ module _ {D : Type 0} (meaning : Meaning D) (mounted : D) (O : List Entry) {H : 
             let no : passes_extents meaning mounted O q ≡ false = rw (told.2) e.fails in
             rw (away, no) refl
 
-  pub agrees-fails : {q : Piece} → Legal meaning mounted H → Facts H → Fails meaning mounted H q → (u : Rest D) →
+  pub agrees-fails : {q : Piece} → Legal meaning mounted H → Facts H → Fails meaning mounted H q → (u : IdleUnit D) →
       Each (Told O H) (arrivals H) → Agrees meaning mounted O H u (arrivals H) →
       Agrees meaning mounted O (Post q.name no_status 0 ExtentViolated ∷ H) u (arrivals H)
   unfolding waiting
@@ -184,7 +184,7 @@ module _ {D : Type 0} (meaning : Meaning D) (mounted : D) (O : List Entry) {H : 
   -- THE POST OF A DOOMED REQUEST, in its turn or before it
   module _ {n : Name} (e : Dooms meaning mounted H n) where
     -- a request of the name is turned away
-    is-away : (u : Rest D) (r : Piece) → ((d : ℕ) → flag d H ≡ u.in_error d) → same n r.name ≡ true → Told O H r →
+    is-away : (u : IdleUnit D) (r : Piece) → ((d : ℕ) → flag d H ≡ u.in_error d) → same n r.name ≡ true → Told O H r →
         Away meaning mounted O (Post n no_status 0 Purged ∷ H) u r
     is-away u r flags s known = record {
       away = rw (flags r.dcb) at (sym (doomed-is O r H known.1 no_controls) ∙ doomed_r);
@@ -206,7 +206,7 @@ module _ {D : Type 0} (meaning : Meaning D) (mounted : D) (O : List Entry) {H : 
       doomed_r : is_doomed H r ≡ true
       doomed_r = subst (λ (q : Piece). is_doomed H q ≡ true) r_is e.dooms
 
-    later-doomed : (u : Rest D) → ((d : ℕ) → flag d H ≡ u.in_error d) → (r : Piece) → Told O H r →
+    later-doomed : (u : IdleUnit D) → ((d : ℕ) → flag d H ≡ u.in_error d) → (r : Piece) → Told O H r →
         Later meaning mounted O H u r → Later meaning mounted O (Post n no_status 0 Purged ∷ H) u r
     later-doomed u flags r known (inl w) = elim (cases_Bool (same n r.name)) [
       | inl s ↦ inr (is-away u r flags s known)
@@ -214,7 +214,7 @@ module _ {D : Type 0} (meaning : Meaning D) (mounted : D) (O : List Entry) {H : 
     ]
     later-doomed u flags r known (inr a) = inr (record { away = a.away; was = was-post n no_status 0 Purged r _ a.was })
 
-    rests-doomed : {u : Rest D} → Rests meaning mounted H u → Rests meaning mounted (Post n no_status 0 Purged ∷ H) u
+    rests-doomed : {u : IdleUnit D} → Rests meaning mounted H u → Rests meaning mounted (Post n no_status 0 Purged ∷ H) u
     unfolding attempts flag
     rests-doomed s = record {
       idle = active-post_waiting n (record { csw = no_status; sense = 0 }) Purged H e.waits.unstarted ∙ s.idle;
@@ -222,7 +222,7 @@ module _ {D : Type 0} (meaning : Meaning D) (mounted : D) (O : List Entry) {H : 
       flags = s.flags;
     }
 
-    runs-doomed : {u : Rest D} {r : Piece} → Runs meaning mounted O H u r →
+    runs-doomed : {u : IdleUnit D} {r : Piece} → Runs meaning mounted O H u r →
         Runs meaning mounted O (Post n no_status 0 Purged ∷ H) u r
     unfolding attempts flag
     runs-doomed p = record {
@@ -240,11 +240,11 @@ module _ {D : Type 0} (meaning : Meaning D) (mounted : D) (O : List Entry) {H : 
       serving = p.serving;
     }
 
-    pub agrees-doomed : (u : Rest D) (rs : List Piece) → Each (Told O H) rs → Agrees meaning mounted O H u rs →
+    pub agrees-doomed : (u : IdleUnit D) (rs : List Piece) → Each (Told O H) rs → Agrees meaning mounted O H u rs →
         Agrees meaning mounted O (Post n no_status 0 Purged ∷ H) u rs
     agrees-doomed u [] k s = rests-doomed s
     agrees-doomed u (r ∷ rs) k (Was p a) =
-        Was (was-post n no_status 0 Purged r _ p) (agrees-doomed (rest_after meaning mounted O u r) rs k.1 a)
+        Was (was-post n no_status 0 Purged r _ p) (agrees-doomed (unit_after meaning mounted O u r) rs k.1 a)
     agrees-doomed u (r ∷ rs) k (Is p l) = Is (runs-doomed p) (each-both (later-doomed u p.flags) rs k.1 l)
     agrees-doomed u (r ∷ rs) k (Will s w l) =
         absorb meaning mounted O (r ∷ rs) (rests-doomed s)

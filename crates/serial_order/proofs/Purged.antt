@@ -9,8 +9,8 @@ use Rattle.recovery.specs.declared.answer.Verdict.{Verdict}
 use Rattle.recovery.specs.Verdict.{verdict, is_success, is_disk, is_passing_error, is_channel_error}
 use Rattle.std.specs.Prelude.{◌⊎◌, nat_le}
 use Rattle.unit_book.specs.declared.entry.Entry.{Entry}
-use Rattle.serial_order.specs.OneAtATime.{Rest, attempt, attempts_from, fresh_rest, is_turned_away, one_at_a_time, passes_extents}
-use Rattle.serial_order.specs.OneAtATime.{rest_after, serve, serve_all, status_at, to_end, verdict_on, with_program}
+use Rattle.serial_order.specs.OneAtATime.{IdleUnit, attempt, attempts_from, fresh_unit, is_turned_away, one_at_a_time, passes_extents}
+use Rattle.serial_order.specs.OneAtATime.{unit_after, serve, serve_all, status_at, to_end, verdict_on, with_program}
 use Rattle.serial_order.specs.Laws.{FollowsError}
 use Rattle.serial_order.proofs.Programs.{attempts-again, attempts-final}
 use Rattle.std.proofs.lemmas.Bool.{eqb-true}
@@ -59,7 +59,7 @@ module _ {D : Type 0} (meaning : Meaning D) (mounted : D) (openings : List Entry
         by (Final code) e later = final-code (suc left) number r p code e h
 
   -- a request that is served 48 is turned away
-  served-away : (u : Rest D) (r : Piece) → (serve meaning mounted openings u r).value.code ≡ Purged → is_turned_away openings u r ≡ true
+  served-away : (u : IdleUnit D) (r : Piece) → (serve meaning mounted openings u r).value.code ≡ Purged → is_turned_away openings u r ≡ true
   unfolding posted_value
   served-away u r h = elim (cases_Bool (is_turned_away openings u r)) [
     | inl away ↦ away
@@ -74,10 +74,10 @@ module _ {D : Type 0} (meaning : Meaning D) (mounted : D) (openings : List Entry
   related-away v0 v1 v2 h o = grind (arith, common_steps)
 
   -- the cause of a flag: it was set before these requests, or by one of them
-  abbrev Caused : Rest D → List Piece → ℕ → Piece → Type 0
+  abbrev Caused : IdleUnit D → List Piece → ℕ → Piece → Type 0
   Caused u rs at r = (u.in_error r.dcb ≡ true) ⊎ FollowsError rs (serve_all meaning mounted openings u rs) at r
 
-  flagged-by : (u : Rest D) (q r : Piece) (rs : List Piece) (at : ℕ) → (rest_after meaning mounted openings u q).in_error r.dcb ≡ true →
+  flagged-by : (u : IdleUnit D) (q r : Piece) (rs : List Piece) (at : ℕ) → (unit_after meaning mounted openings u q).in_error r.dcb ≡ true →
       Caused u (q ∷ rs) (suc at) r
   unfolding serve_all
   flagged-by u q r rs at h =
@@ -101,7 +101,7 @@ module _ {D : Type 0} (meaning : Meaning D) (mounted : D) (openings : List Entry
       ]
 
   -- A REQUEST THAT IS POSTED 48 is related, and its DCB has the flag
-  caused : (u : Rest D) (rs : List Piece) (at : ℕ) (r : Piece) (v : PostedState) → slice_get rs at ≡ Some r →
+  caused : (u : IdleUnit D) (rs : List Piece) (at : ℕ) (r : Piece) (v : PostedState) → slice_get rs at ≡ Some r →
       slice_get (serve_all meaning mounted openings u rs) at ≡ Some v → v.code ≡ Purged → is_opened r.dcb openings ≡ true →
       (r.related ≡ true) × Caused u rs at r
   unfolding serve_all
@@ -113,7 +113,7 @@ module _ {D : Type 0} (meaning : Meaning D) (mounted : D) (openings : List Entry
       let why = related-away (is_opened r.dcb openings) r.related (u.in_error r.dcb) away opened in
       (why.0, inl why.1)
   caused u (q ∷ rs) (suc at) r v e e' code opened =
-      let known = caused (rest_after meaning mounted openings u q) rs at r v e e' code opened in (
+      let known = caused (unit_after meaning mounted openings u q) rs at r v e e' code opened in (
         known.0,
         elim (known.1) [
           | inl flagged ↦ flagged-by u q r rs at flagged
@@ -135,5 +135,5 @@ module _ {D : Type 0} (meaning : Meaning D) (mounted : D) (openings : List Entry
       slice_get (one_at_a_time meaning mounted openings rs) at ≡ Some v → v.code ≡ Purged → is_opened r.dcb openings ≡ true →
       (r.related ≡ true) × FollowsError rs (one_at_a_time meaning mounted openings rs) at r
   follows-error rs at r v e e' code opened =
-      let known = caused (fresh_rest meaning mounted openings) rs at r v e e' code opened in
+      let known = caused (fresh_unit meaning mounted openings) rs at r v e e' code opened in
       (known.0, elim (known.1) [ inl flagged ↦ absurd cc | inr f ↦ f ])

@@ -9,7 +9,7 @@ use Rattle.unit_book.specs.Legal.{RanFits}
 use Rattle.unit_book.proofs.Facts.{Facts, Known, Each-behind, Each-weaker, NewestIs}
 use Rattle.unit_book.proofs.Runs.{current-ran}
 use Rattle.ccw_programs.proofs.StepLaws.{after-add}
-use Rattle.serial_order.specs.OneAtATime.{Rest, rest_after}
+use Rattle.serial_order.specs.OneAtATime.{IdleUnit, unit_after}
 use Rattle.serial_order.proofs.Programs.{more-few}
 use Rattle.serial_order.proofs.Agrees.{Rests, Waits, WasPosted, Later, Runs, Was, Is, Will, Agrees}
 use Rattle.serial_order.proofs.Turns.{active-turn}
@@ -18,7 +18,7 @@ module _ {D : Type 0} (meaning : Meaning D) (mounted : D) where
   module _ (openings : List Entry) (H : List Entry) where
     -- AN OPENING
     module _ (d : ℕ) (method : ProcessingMethod) (extents : List Extent) where
-      rests-opened : {u : Rest D} → Rests meaning mounted H u → Rests meaning mounted (Opened d method extents ∷ H) u
+      rests-opened : {u : IdleUnit D} → Rests meaning mounted H u → Rests meaning mounted (Opened d method extents ∷ H) u
       unfolding active started attempts flag
       rests-opened s = record { idle = s.idle; equals = s.equals; flags = s.flags }
 
@@ -30,7 +30,7 @@ module _ {D : Type 0} (meaning : Meaning D) (mounted : D) where
       unfolding posted
       was-opened w = record { done = w.done; value = w.value }
 
-      runs-opened : {u : Rest D} {r : Piece} → Runs meaning mounted openings H u r →
+      runs-opened : {u : IdleUnit D} {r : Piece} → Runs meaning mounted openings H u r →
           Runs meaning mounted openings (Opened d method extents ∷ H) u r
       unfolding active started attempts flag
       runs-opened p = record {
@@ -48,28 +48,28 @@ module _ {D : Type 0} (meaning : Meaning D) (mounted : D) where
         serving = p.serving;
       }
 
-      later-opened : {u : Rest D} (r : Piece) → Later meaning mounted openings H u r →
+      later-opened : {u : IdleUnit D} (r : Piece) → Later meaning mounted openings H u r →
           Later meaning mounted openings (Opened d method extents ∷ H) u r
       later-opened r (inl w) = inl (waits-opened w)
       later-opened r (inr a) = inr (record { away = a.away; was = was-opened a.was })
 
-      each-opened : (u : Rest D) (rs : List Piece) → Each (Later meaning mounted openings H u) rs →
+      each-opened : (u : IdleUnit D) (rs : List Piece) → Each (Later meaning mounted openings H u) rs →
           Each (Later meaning mounted openings (Opened d method extents ∷ H) u) rs
       each-opened u rs l =
           Each-weaker (Later meaning mounted openings H u)
           (Later meaning mounted openings (Opened d method extents ∷ H) u) later-opened rs l
 
-      pub agrees-opened : (u : Rest D) (rs : List Piece) → Agrees meaning mounted openings H u rs →
+      pub agrees-opened : (u : IdleUnit D) (rs : List Piece) → Agrees meaning mounted openings H u rs →
           Agrees meaning mounted openings (Opened d method extents ∷ H) u rs
       agrees-opened u [] s = rests-opened s
-      agrees-opened u (r ∷ rs) (Was p a) = Was (was-opened p) (agrees-opened (rest_after meaning mounted openings u r) rs a)
+      agrees-opened u (r ∷ rs) (Was p a) = Was (was-opened p) (agrees-opened (unit_after meaning mounted openings u r) rs a)
       agrees-opened u (r ∷ rs) (Is p l) = Is (runs-opened p) (each-opened u rs l)
       agrees-opened u (r ∷ rs) (Will s v l) = Will (rests-opened s) (waits-opened v) (each-opened u rs l)
 
   module _ (openings : List Entry) {H : List Entry} where
     -- AN ARRIVAL
     module _ (q : Piece) where
-      rests-arrive : {u : Rest D} → Rests meaning mounted H u → Rests meaning mounted (Arrive q ∷ H) u
+      rests-arrive : {u : IdleUnit D} → Rests meaning mounted H u → Rests meaning mounted (Arrive q ∷ H) u
       unfolding active started attempts flag
       rests-arrive s = record { idle = s.idle; equals = s.equals; flags = s.flags }
 
@@ -80,7 +80,7 @@ module _ {D : Type 0} (meaning : Meaning D) (mounted : D) where
       unfolding posted
       was-arrive w = record { done = w.done; value = w.value }
 
-      runs-arrive : {u : Rest D} {r : Piece} → Runs meaning mounted openings H u r → Runs meaning mounted openings (Arrive q ∷ H) u r
+      runs-arrive : {u : IdleUnit D} {r : Piece} → Runs meaning mounted openings H u r → Runs meaning mounted openings (Arrive q ∷ H) u r
       unfolding active started attempts flag
       runs-arrive p = record {
         active = p.active;
@@ -97,20 +97,20 @@ module _ {D : Type 0} (meaning : Meaning D) (mounted : D) where
         serving = p.serving;
       }
 
-      later-arrive : {u : Rest D} (r : Piece) → Later meaning mounted openings H u r → Later meaning mounted openings (Arrive q ∷ H) u r
+      later-arrive : {u : IdleUnit D} (r : Piece) → Later meaning mounted openings H u r → Later meaning mounted openings (Arrive q ∷ H) u r
       later-arrive r (inl w) = inl (waits-arrive w)
       later-arrive r (inr a) = inr (record { away = a.away; was = was-arrive a.was })
 
-      each-arrive : (u : Rest D) (rs : List Piece) → Waits (Arrive q ∷ H) q → Each (Later meaning mounted openings H u) rs →
+      each-arrive : (u : IdleUnit D) (rs : List Piece) → Waits (Arrive q ∷ H) q → Each (Later meaning mounted openings H u) rs →
           Each (Later meaning mounted openings (Arrive q ∷ H) u) (rs ++ q ∷ [])
       each-arrive u rs w l =
           Each-behind (Later meaning mounted openings (Arrive q ∷ H) u) rs q
           (Each-weaker (Later meaning mounted openings H u) (Later meaning mounted openings (Arrive q ∷ H) u) later-arrive rs l) (inl w)
 
-      pub agrees-arrive : (u : Rest D) (rs : List Piece) → Waits (Arrive q ∷ H) q → Agrees meaning mounted openings H u rs →
+      pub agrees-arrive : (u : IdleUnit D) (rs : List Piece) → Waits (Arrive q ∷ H) q → Agrees meaning mounted openings H u rs →
           Agrees meaning mounted openings (Arrive q ∷ H) u (rs ++ q ∷ [])
       agrees-arrive u [] w s = Will (rests-arrive s) w tt
-      agrees-arrive u (r ∷ rs) w (Was p a) = Was (was-arrive p) (agrees-arrive (rest_after meaning mounted openings u r) rs w a)
+      agrees-arrive u (r ∷ rs) w (Was p a) = Was (was-arrive p) (agrees-arrive (unit_after meaning mounted openings u r) rs w a)
       agrees-arrive u (r ∷ rs) w (Is p l) = Is (runs-arrive p) (each-arrive u rs w l)
       agrees-arrive u (r ∷ rs) w (Will s v l) = Will (rests-arrive s) (waits-arrive v) (each-arrive u rs w l)
 
@@ -120,11 +120,11 @@ module _ {D : Type 0} (meaning : Meaning D) (mounted : D) where
       unfolding posted
       was-ran r v w = record { done = w.done; value = w.value }
 
-      later-ran : {u : Rest D} (r : Piece) → Later meaning mounted openings H u r → Later meaning mounted openings (Ran n j ∷ H) u r
+      later-ran : {u : IdleUnit D} (r : Piece) → Later meaning mounted openings H u r → Later meaning mounted openings (Ran n j ∷ H) u r
       later-ran r (inl w) = inl (record { unstarted = w.unstarted; unposted = w.unposted })
       later-ran r (inr a) = inr (record { away = a.away; was = was-ran r _ a.was })
 
-      runs-ran : {u : Rest D} {r : Piece} → Runs meaning mounted openings H u r → Runs meaning mounted openings (Ran n j ∷ H) u r
+      runs-ran : {u : IdleUnit D} {r : Piece} → Runs meaning mounted openings H u r → Runs meaning mounted openings (Ran n j ∷ H) u r
       unfolding active started flag
       runs-ran p =
           let w : NewestIs n H = f.4 n fits.active in
@@ -145,7 +145,7 @@ module _ {D : Type 0} (meaning : Meaning D) (mounted : D) where
             serving = p.serving;
           }
 
-      pub agrees-ran : (u : Rest D) (rs : List Piece) → Each (Known H) rs →
+      pub agrees-ran : (u : IdleUnit D) (rs : List Piece) → Each (Known H) rs →
           Agrees meaning mounted openings H u rs → Agrees meaning mounted openings (Ran n j ∷ H) u rs
       agrees-ran u rs k a =
           active-turn meaning mounted openings was-ran (Known H)

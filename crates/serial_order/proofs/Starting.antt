@@ -15,7 +15,7 @@ use Rattle.unit_book.proofs.ActivePosts.{area-current}
 use Rattle.unit_book.proofs.Starts.{no-starts, as-issued, current-start}
 use Rattle.unit_book.proofs.Restarts.{retry-few}
 use Rattle.unit_book.proofs.Dooms.{none-pass}
-use Rattle.serial_order.specs.OneAtATime.{Rest, attempt, attempts_from, to_end, verdict_on, status_at, is_turned_away, passes_extents}
+use Rattle.serial_order.specs.OneAtATime.{IdleUnit, attempt, attempts_from, to_end, verdict_on, status_at, is_turned_away, passes_extents}
 use Rattle.serial_order.proofs.Uncontrolled.{Uncontrolled, Tells, Told, not-halted, doomed-is}
 use Rattle.serial_order.proofs.Programs.{end-is, phase-ended, attempts-again}
 use Rattle.serial_order.proofs.Agrees.{Rests, WasPosted, Later, Runs, Is, Agrees}
@@ -42,7 +42,7 @@ first-spared r H d s =
 
 module _ {D : Type 0} (meaning : Meaning D) (mounted : D) (O : List Entry) {H : List Entry} (no_controls : Uncontrolled H) where
   -- the first that waits is not turned away
-  pub stays-here : {u : Rest D} (q : Piece) → Tells O H q → Rests meaning mounted H u → is_doomed H q ≡ false → is_turned_away O u q ≡ false
+  pub stays-here : {u : IdleUnit D} (q : Piece) → Tells O H q → Rests meaning mounted H u → is_doomed H q ≡ false → is_turned_away O u q ≡ false
   stays-here {u} q t s d =
       let e = doomed-is O q H t no_controls in
       let k = sym e ∙ d in rw (s.flags q.dcb) at k
@@ -51,13 +51,13 @@ module _ {D : Type 0} (meaning : Meaning D) (mounted : D) (O : List Entry) {H : 
   unfolding posted
   was-start n r v w = record { done = w.done; value = w.value }
 
-  later-start : (n : Name) (u : Rest D) (r : Piece) → same n r.name ≡ false → Later meaning mounted O H u r →
+  later-start : (n : Name) (u : IdleUnit D) (r : Piece) → same n r.name ≡ false → Later meaning mounted O H u r →
       Later meaning mounted O (Start n ∷ H) u r
   later-start n u r s (inl w) = inl (record { unstarted = rw s w.unstarted; unposted = w.unposted })
   later-start n u r s (inr a) = inr (record { away = a.away; was = was-start n r _ a.was })
 
   -- A FIRST START
-  runs-first : {q : Piece} (u : Rest D) → Tells O H q → Legal meaning mounted H → Facts H → (s : StartsFirst meaning mounted q.name H) →
+  runs-first : {q : Piece} (u : IdleUnit D) → Tells O H q → Legal meaning mounted H → Facts H → (s : StartsFirst meaning mounted q.name H) →
       s.request ≡ q → doomed H ≡ [] → Rests meaning mounted H u → Runs meaning mounted O (Start q.name ∷ H) u q
   unfolding flag after
   runs-first {q} u told l f s is none rest =
@@ -87,7 +87,7 @@ module _ {D : Type 0} (meaning : Meaning D) (mounted : D) (O : List Entry) {H : 
       }
 
   pub agrees-first : (n : Name) → Legal meaning mounted H → Facts H → StartsFirst meaning mounted n H → doomed H ≡ [] →
-      (u : Rest D) → Each (Told O H) (arrivals H) → Agrees meaning mounted O H u (arrivals H) →
+      (u : IdleUnit D) → Each (Told O H) (arrivals H) → Agrees meaning mounted O H u (arrivals H) →
       Agrees meaning mounted O (Start n ∷ H) u (arrivals H)
   unfolding waiting
   agrees-first n l f s none u k a =
@@ -103,13 +103,13 @@ module _ {D : Type 0} (meaning : Meaning D) (mounted : D) (O : List Entry) {H : 
       s.none u (arrivals H) s.first f.5 a)
 
   -- the program of the active request has ended
-  pub record HasRun {u : Rest D} {r : Piece} (p : Runs meaning mounted O H u r) (status : Status) : Type 0 where
+  pub record HasRun {u : IdleUnit D} {r : Piece} (p : Runs meaning mounted O H u r) (status : Status) : Type 0 where
     pub at_end : to_end meaning p.begins ≡ current meaning mounted H
     pub status_is : status_at (current meaning mounted H).place.state ≡ status
     pub verdict_is : verdict_on (meaning.kind mounted) p.number (to_end meaning p.begins)
         ≡ verdict (meaning.kind mounted) status.csw status.sense (starts_of r.name H)
 
-  pub has-run : {u : Rest D} {r : Piece} (p : Runs meaning mounted O H u r) (status : Status) →
+  pub has-run : {u : IdleUnit D} {r : Piece} (p : Runs meaning mounted O H u r) (status : Status) →
       active_phase meaning mounted r.name H ≡ HasEnded status → HasRun p status
   has-run {u} {r} p status e =
       let cur = current meaning mounted H in
@@ -129,7 +129,7 @@ module _ {D : Type 0} (meaning : Meaning D) (mounted : D) (O : List Entry) {H : 
       }
 
   -- A FURTHER START
-  runs-again : {r : Piece} (u : Rest D) → Facts H → Told O H r → StartsAgain meaning mounted r.name H →
+  runs-again : {r : Piece} (u : IdleUnit D) → Facts H → Told O H r → StartsAgain meaning mounted r.name H →
       Runs meaning mounted O H u r → Runs meaning mounted O (Start r.name ∷ H) u r
   unfolding flag after
   runs-again {r} u f known s p = by_left p.left refl where
@@ -172,17 +172,17 @@ module _ {D : Type 0} (meaning : Meaning D) (mounted : D) (O : List Entry) {H : 
               ∙ attempts-again meaning mounted O left p.number r p.begins retry;
         }
 
-  pub agrees-again : (n : Name) → Facts H → StartsAgain meaning mounted n H → (u : Rest D) (rs : List Piece) → Each (Told O H) rs →
+  pub agrees-again : (n : Name) → Facts H → StartsAgain meaning mounted n H → (u : IdleUnit D) (rs : List Piece) → Each (Told O H) rs →
       Agrees meaning mounted O H u rs → Agrees meaning mounted O (Start n ∷ H) u rs
   agrees-again n f s u rs k a = active-turn meaning mounted O (was-start n) (Told O H) turn s.active u rs k a where
     begun : has_started n H ≡ true
     begun = (active-is n H s.active).0
 
-    later : (u : Rest D) (r : Piece) → Later meaning mounted O H u r → Later meaning mounted O (Start n ∷ H) u r
+    later : (u : IdleUnit D) (r : Piece) → Later meaning mounted O H u r → Later meaning mounted O (Start n ∷ H) u r
     later u r (inl w) = later-start n u r (other-name H n r.name begun w.unstarted) (inl w)
     later u r (inr a) = inr (record { away = a.away; was = was-start n r _ a.was })
 
-    turn : (u : Rest D) (r : Piece) (rs : List Piece) → r.name ≡ n → Told O H r → Runs meaning mounted O H u r →
+    turn : (u : IdleUnit D) (r : Piece) (rs : List Piece) → r.name ≡ n → Told O H r → Runs meaning mounted O H u r →
         Each (Later meaning mounted O H u) rs → Agrees meaning mounted O (Start n ∷ H) u (r ∷ rs)
     turn u r rs e known p l =
         let s' : StartsAgain meaning mounted r.name H = subst (λ (x : Name). StartsAgain meaning mounted x H) (sym e) s in

@@ -4,7 +4,7 @@ use Rattle.unit_book.proofs.Names.{sym, ap, ◌∙◌, arith, inl, inr, subst, f
 use Rattle.unit_book.proofs.Names.{is_posted, active, Each, PostedState, posted_value}
 use Rattle.unit_book.specs.declared.entry.Entry.{Entry}
 use Rattle.unit_book.proofs.Lists.{none_named, Apart}
-use Rattle.serial_order.specs.OneAtATime.{Rest, without_start, is_turned_away, serve, rest_after}
+use Rattle.serial_order.specs.OneAtATime.{IdleUnit, without_start, is_turned_away, serve, unit_after}
 use Rattle.serial_order.proofs.Agrees.{Rests, Waits, WasPosted, Away, Later, Runs, Was, Is, Will, Agrees}
 use Rattle.std.proofs.lemmas.Grind.{common_steps}
 
@@ -30,20 +30,20 @@ turned-later v0 v1 v2 v3 h = grind (arith, common_steps)
 
 module _ {D : Type 0} (meaning : Meaning D) (mounted : D) (openings : List Entry) where
   -- a request that is turned away changes nothing
-  pub serve-away : (u : Rest D) (r : Piece) → is_turned_away openings u r ≡ true →
+  pub serve-away : (u : IdleUnit D) (r : Piece) → is_turned_away openings u r ≡ true →
       serve meaning mounted openings u r ≡ without_start u r Purged
   serve-away u r h = rw h refl
 
-  pub next-away : (u : Rest D) (r : Piece) → is_turned_away openings u r ≡ true → rest_after meaning mounted openings u r ≡ u
+  pub next-away : (u : IdleUnit D) (r : Piece) → is_turned_away openings u r ≡ true → unit_after meaning mounted openings u r ≡ u
   unfolding posted_value
   next-away u r h = rw h refl
 
   -- a request that is turned away is turned away in each later turn
-  pub away-next : (u : Rest D) (q r : Piece) → is_turned_away openings u r ≡ true →
-      is_turned_away openings (rest_after meaning mounted openings u q) r ≡ true
+  pub away-next : (u : IdleUnit D) (q r : Piece) → is_turned_away openings u r ≡ true →
+      is_turned_away openings (unit_after meaning mounted openings u q) r ≡ true
   away-next u q r h = turned-later _ r.related (u.in_error r.dcb) _ h
 
-  was-away : {H : List Entry} {u : Rest D} {r : Piece} → Away meaning mounted openings H u r →
+  was-away : {H : List Entry} {u : IdleUnit D} {r : Piece} → Away meaning mounted openings H u r →
       WasPosted meaning mounted H r (serve meaning mounted openings u r).value
   was-away {u = u} {r = r} a = record {
     done = a.was.done;
@@ -51,27 +51,27 @@ module _ {D : Type 0} (meaning : Meaning D) (mounted : D) (openings : List Entry
   }
 
   -- if nothing is active, the turns of those that were posted 48 before their turn are past
-  pub absorb : {H : List Entry} {u : Rest D} (rs : List Piece) → Rests meaning mounted H u → Each (Later meaning mounted openings H u) rs →
+  pub absorb : {H : List Entry} {u : IdleUnit D} (rs : List Piece) → Rests meaning mounted H u → Each (Later meaning mounted openings H u) rs →
       Agrees meaning mounted openings H u rs
   absorb [] s l = s
   absorb {H} {u} (r ∷ rs) s l = elim (l.0) [
     | inl w ↦ Will s w l.1
     | inr a ↦ Was (was-away a)
-        (subst (λ (x : Rest D). Agrees meaning mounted openings H x rs) (sym (next-away u r a.away)) (absorb rs s l.1))
+        (subst (λ (x : IdleUnit D). Agrees meaning mounted openings H x rs) (sym (next-away u r a.away)) (absorb rs s l.1))
   ]
 
   module _ {H G : List Entry}
       (stays : (r : Piece) (v : PostedState) → WasPosted meaning mounted H r v → WasPosted meaning mounted G r v) where
     -- THE TURN OF THE FIRST that waits, if nothing is active
     pub first-turn : {q : Piece} →
-        ((u : Rest D) (rs : List Piece) → Rests meaning mounted H u → Waits H q → none_named q.name rs ≡ true →
+        ((u : IdleUnit D) (rs : List Piece) → Rests meaning mounted H u → Waits H q → none_named q.name rs ≡ true →
         Each (Later meaning mounted openings H u) rs → Agrees meaning mounted openings G u (q ∷ rs)) →
-        active H ≡ None → (u : Rest D) (rs : List Piece) → slice_get (that_wait H rs) 0 ≡ Some q → Apart rs →
+        active H ≡ None → (u : IdleUnit D) (rs : List Piece) → slice_get (that_wait H rs) 0 ≡ Some q → Apart rs →
         Agrees meaning mounted openings H u rs → Agrees meaning mounted openings G u rs
     unfolding Apart
     first-turn will idle u [] h apart a = absurd cc
     first-turn {q} will idle u (r ∷ rs) h apart (Was p a) =
-        Was (stays r _ p) (first-turn will idle (rest_after meaning mounted openings u r) rs (first-dropped H q r rs p.done h) apart.1 a)
+        Was (stays r _ p) (first-turn will idle (unit_after meaning mounted openings u r) rs (first-dropped H q r rs p.done h) apart.1 a)
     first-turn will idle u (r ∷ rs) h apart (Is p l) = let k = sym idle ∙ p.active in absurd cc
     first-turn {q} will idle u (r ∷ rs) h apart (Will s w l) =
         let e : q ≡ r = first-kept H q r rs w.unstarted w.unposted h in
@@ -81,13 +81,13 @@ module _ {D : Type 0} (meaning : Meaning D) (mounted : D) (openings : List Entry
 
     -- THE TURN OF THE ACTIVE REQUEST
     pub active-turn : {n : Name} (K : Piece → Type 0) →
-        ((u : Rest D) (r : Piece) (rs : List Piece) → r.name ≡ n → K r → Runs meaning mounted openings H u r →
+        ((u : IdleUnit D) (r : Piece) (rs : List Piece) → r.name ≡ n → K r → Runs meaning mounted openings H u r →
         Each (Later meaning mounted openings H u) rs → Agrees meaning mounted openings G u (r ∷ rs)) →
-        active H ≡ Some n → (u : Rest D) (rs : List Piece) → Each K rs →
+        active H ≡ Some n → (u : IdleUnit D) (rs : List Piece) → Each K rs →
         Agrees meaning mounted openings H u rs → Agrees meaning mounted openings G u rs
     active-turn K is busy u [] k s = let e = sym busy ∙ s.idle in absurd cc
     active-turn K is busy u (r ∷ rs) k (Was p a) =
-        Was (stays r _ p) (active-turn K is busy (rest_after meaning mounted openings u r) rs k.1 a)
+        Was (stays r _ p) (active-turn K is busy (unit_after meaning mounted openings u r) rs k.1 a)
     active-turn {n} K is busy u (r ∷ rs) k (Is p l) =
         let e = sym busy ∙ p.active in
         let i : r.name ≡ n = cc in is u r rs i k.0 p l

@@ -5,10 +5,11 @@ use Rattle.unit_book.proofs.Names.{extents_of, mask_of, is_doomed, flag}
 use Rattle.unit_book.specs.declared.entry.Entry.{Entry}
 use Rattle.unit_book.specs.declared.entry.Entry.TheVariants.{Opened, Arrive, Start, Ran, Halted, Purge, Close, Reset, Post}
 use Rattle.unit_book.specs.Trace.{since, closes, is_purged, opens_for_input, purges, purges_halting, halts, starts, arrives}
-use Rattle.serial_order.specs.Laws.{is_controlling, openings}
+use Rattle.serial_order.specs.Laws.{is_controlling}
 use Rattle.unit_book.proofs.Names.{Each, Extent, and_parts, ◌++◌, sym, Meaning, Legal, Due, ToHalt, ToPost, Free, due, FitsBy, is_to_halt}
 use Rattle.unit_book.specs.declared.dcb.ProcessingMethod.{ProcessingMethod}
 use Rattle.unit_book.proofs.Facts.{Known, due-halt, not-true}
+use Rattle.unit_book.specs.Dcbs.{openings}
 use Rattle.std.proofs.lemmas.Grind.{common_steps}
 
 -- the entry is a control, or the halt that a purge makes

@@ -13,8 +13,9 @@ use Rattle.unit_book.specs.declared.entry.Entry.{Entry}
 use Rattle.unit_book.specs.declared.entry.Entry.TheVariants.{Opened, Arrive, Start, Ran, Post}
 use Rattle.unit_book.specs.Settle.{IsIdle}
 use Rattle.unit_book.specs.Trace.{no_request}
+use Rattle.unit_book.specs.Dcbs.{openings}
 use Rattle.serial_order.specs.OneAtATime.{attempts_from, serve_all, after_all, one_at_a_time, device_after}
-use Rattle.serial_order.specs.Laws.{IsUncontrolled, opens_before, openings}
+use Rattle.serial_order.specs.Laws.{IsUncontrolled, opens_before}
 
 -- a device that counts its prefixes
 counter : Meaning ℕ

@@ -1,6 +1,6 @@
 -- LAWS OF TRACES WITHOUT CONTROLS: each request has the post that it has if the unit serves one at a time (profile).
 use Rattle.std.specs.Prelude.{◌≡◌, ◌<◌, ◌==◌, ℕ, Bool, true, false, not, ◌&&◌, Option, Some, List, [], ◌∷◌, map, slice_get}
-use Rattle.std.specs.List.{filter, find, list_all}
+use Rattle.std.specs.List.{find, list_all}
 use Rattle.io_images.specs.Codes.{is_error}
 use Rattle.io_images.specs.declared.code.Code.TheVariants.{Purged}
 use Rattle.device_port.specs.Meaning.{Meaning}
@@ -9,8 +9,8 @@ use Rattle.request_piece.specs.declared.piece.Name.{Name}
 use Rattle.request_piece.specs.declared.piece.Piece.{Piece}
 use Rattle.unit_book.specs.declared.entry.Entry.{Entry}
 use Rattle.unit_book.specs.declared.entry.Entry.TheVariants.{Opened, Purge, Close, Reset}
-use Rattle.unit_book.specs.Trace.{same, is_opening, is_posted, arrivals}
-use Rattle.unit_book.specs.Dcbs.{is_opened}
+use Rattle.unit_book.specs.Trace.{same, is_posted, arrivals}
+use Rattle.unit_book.specs.Dcbs.{is_opened, openings}
 use Rattle.unit_book.specs.Legal.{Legal}
 use Rattle.unit_book.specs.Media.{device}
 use Rattle.unit_book.specs.Posts.{posted}
@@ -23,10 +23,6 @@ is_controlling (Purge scope mode) = true
 is_controlling (Close d) = true
 is_controlling (Reset d) = true
 is_controlling _ = false
-
--- the openings of a trace, newest first
-abbrev pub openings : List Entry → List Entry
-openings H = filter is_opening H
 
 -- each DCB was opened before the first request for it arrived
 unfoldable pub opens_before : List Entry → Bool

@@ -4,7 +4,7 @@ use Rattle.std.specs.Prelude.{slice_get}
 use Rattle.std.proofs.lemmas.List.{append-nil, length-map}
 use Rattle.device_port.specs.Meaning.{Meaning}
 use Rattle.request_piece.specs.PostedState.{PostedState}
-use Rattle.fifo_row.specs.Lists.{of}
+use Rattle.fifo_row.specs.Lists.{of_sender}
 use Rattle.excp_system.specs.Opening.{AreTasks, fresh_task}
 use Rattle.excp_system.specs.Sites.{unit_of}
 use Rattle.excp_system.specs.States.{TaskState}
@@ -41,4 +41,4 @@ pub returned_later : {D : Type 0} (meaning : Meaning D) (units : ℕ) (first tas
     (report : ReportState D) → CollectsAll units first tasks [] after → length report.books ≡ units →
     ReturnedRest meaning after report tasks → Returned meaning report first
 returned_later meaning units first tasks after report c count r u t b w e e' =
-    returned_first units first tasks [] after c report meaning count r u t b w e e' (of unit_of u w.got) (sym (append-nil _))
+    returned_first units first tasks [] after c report meaning count r u t b w e e' (of_sender unit_of u w.got) (sym (append-nil _))

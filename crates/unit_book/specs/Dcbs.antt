@@ -26,9 +26,13 @@ is_closed d H = list_any (closes d) H
 abbrev pub is_open : ℕ → List Entry → Bool
 is_open d H = is_opened d H && not (is_closed d H)
 
+-- the openings of a trace, newest first
+abbrev pub openings : List Entry → List Entry
+openings H = filter is_opening H
+
 -- how many DCBs were opened
 abbrev pub opened_count : List Entry → ℕ
-opened_count H = length (filter is_opening H)
+opened_count H = length (openings H)
 
 -- the extents of a DCB
 unfoldable pub extents_of : ℕ → List Entry → List Extent

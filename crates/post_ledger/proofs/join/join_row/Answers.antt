@@ -1,5 +1,5 @@
 use Rattle.std.proofs.Common.{◌<◌, length, ap, ◌∙◌, sym, subst, arith}
-use Rattle.fifo_row.specs.Lists.{BeginsWith, of}
+use Rattle.fifo_row.specs.Lists.{BeginsWith, of_sender}
 use Rattle.post_ledger.proofs.Joins.{some_end, row_is, next_turn, all_done, all_shorter}
 use Rattle.post_ledger.proofs.join.join_row.Goals as goal
 
@@ -33,7 +33,7 @@ loop-t-preserved g c =
       turn = next_turn g.I.Item.from g.F.Reach.reached c.args.k c.loop-t.t c.args.taker.taken c.args.fans.now.items c.loop-t.fans.items
           i.turn c.requires.drained lt c.index_mut-fan.result.now c.index_mut-fan.ensures.value
           c.pop.new.self s (c.in-Some.ensures.end, c.in-Some.ensures.last)
-          (subst (λ l. BeginsWith (of g.I.Item.from s.number l) s.sent) i.taken c.meet.ensures.begins);
+          (subst (λ l. BeginsWith (of_sender g.I.Item.from s.number l) s.sent) i.taken c.meet.ensures.begins);
     }
 
 pub returns-clause-all : goal.returns-clause-all

@@ -4,7 +4,7 @@ use Rattle.std.proofs.lemmas.Grind.{common_steps}
 use Rattle.request_piece.specs.PostedState.{PostedState}
 use Rattle.request_piece.specs.declared.piece.Name.{Name}
 use Rattle.unit_book.specs.Book.{given}
-use Rattle.fifo_row.specs.Lists.{of}
+use Rattle.fifo_row.specs.Lists.{of_sender}
 use Rattle.fifo_row.specs.Steps.{WasFull}
 use Rattle.excp_system.specs.Sites.{NoFact, post_rows, unit_of, for_task, end_of}
 use Rattle.excp_system.specs.Fans.{sent_to}
@@ -88,7 +88,7 @@ returns-in-Err g c =
     let first : IsFirst meaning s c.self.inside.book c.name-name.result value =
     record { first = sym c.in-Some.ensures.first; named = sym c.name-name.ensures; of_task = f.0 } in
     let full : WasFull unit_of NoFact
-    (end_of (post_rows s) c.self.inside.unit value.name.task (of for_task value.name.task (given meaning c.self.inside.book))) =
+    (end_of (post_rows s) c.self.inside.unit value.name.task (of_sender for_task value.name.task (given meaning c.self.inside.book))) =
     subst (λ (q : ℕ × List PostedState). WasFull unit_of NoFact (end_of (post_rows s) q.0 value.name.task q.1))
     (λ j. (inv.back_is j, inv.sent value.name.task f.0 j))
     (subst (λ (n : Name). WasFull unit_of NoFact
@@ -98,7 +98,7 @@ returns-in-Err g c =
       subst (λ (v : Locked _). IsFirst meaning s v.book c.name-name.result value) is first,
       (search rules),
       subst (λ (v : Locked _). WasFull unit_of NoFact
-          (end_of (post_rows s) v.unit value.name.task (of for_task value.name.task (given meaning v.book)))) is full,
+          (end_of (post_rows s) v.unit value.name.task (of_sender for_task value.name.task (given meaning v.book)))) is full,
     )
 
 pub invariant_of-self : goal.invariant_of-self

@@ -6,7 +6,7 @@ use Rattle.unit_book.specs.Trace.{arrived_of}
 use Rattle.unit_book.proofs.Kept.{keeps-then, sound-kept}
 use Rattle.unit_book.proofs.WorldBooks.{Keeps, Sound, keeps-arrive, keeps-again}
 use Rattle.fifo_row.specs.Ends.{IsNextItem, Taking}
-use Rattle.fifo_row.specs.Lists.{of}
+use Rattle.fifo_row.specs.Lists.{of_sender}
 use Rattle.excp_system.specs.Sites.{RequestFact, task_of}
 use Rattle.unit_book.specs.declared.entry.Entry.TheVariants.{Arrive}
 use Rattle.excp_system.proofs.Begins.{began_then, continues_again, continues_dooms, continues_then}
@@ -28,8 +28,8 @@ invariant_of-self-in-Some g c =
     let next : IsNextItem task_of RequestFact taker r = subst (IsNextItem task_of RequestFact taker) (sym same) c.in-Some.ensures.next in
     let sound : Sound meaning old = record { legal = c.holds.ensures.legal; settled = c.holds.ensures.settled } in
     let reserved : Keeps meaning old [] mid = keeps-again meaning old.awaits sound c.in_ok-reserve.ensures.book in
-    let counted : length (of task_of r.name.task taker.taken) ≡ arrived_of r.name.task mid.trace =
-    ap (λ (t : Taking Piece). length (of task_of r.name.task t.taken)) is
+    let counted : length (of_sender task_of r.name.task taker.taken) ≡ arrived_of r.name.task mid.trace =
+    ap (λ (t : Taking Piece). length (of_sender task_of r.name.task t.taken)) is
     ∙ ap (λ (b : Book _). arrived_of r.name.task b.trace) (sym c.in_ok-reserve.ensures.book) in
     let number : r.name.seq ≡ arrived_of r.name.task mid.trace + 1 = omega (arith, next.lawful.0, counted) in
     let kept : Keeps meaning old (r ∷ []) new = keeps-then meaning reserved
