@@ -1,18 +1,12 @@
-//! Lines of scenarios: those of scripts, sizes of rows and books, steps and expectations (profile).
+//! The steps of a job, and the line of a scenario that each is (profile).
 //!
-//! A scenario has the form of a script. Its commands and events happen in the order of their lines. [`write_step`] writes a
-//! step as a line of one.
+//! The commands and events of a scenario happen in the order of their lines. [`write_step`] writes a step as a line of one.
 //!
-//! Tests: tests/cases/scenarios, `tests/run scenarios`.
+//! Tests: `tests/run outcomes`, whose scenarios `step` carries out.
 #![tactic(auto)]
 
-mod line;
-mod room;
 mod step;
-mod verb;
 mod words;
 
-pub use line::ScenarioLine;
-pub use room::RoomLine;
 pub use step::Step;
 pub use words::{mode_word, write_step};

@@ -1,7 +1,6 @@
 -- Lemmas on steps of a job.
 pub mod NextNames
 pub mod Collections
-pub mod Ending
 pub mod Lawful
 pub mod Nothing
 pub mod Openings

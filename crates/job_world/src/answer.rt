@@ -1,7 +1,7 @@
 //! What steps answer.
 
 ghost use Rattle.std.specs.Prelude.{◌≡◌};
-ghost use Rattle.job_world.specs.Answers.{is_made, post_collected};
+ghost use Rattle.job_world.specs.Answers.{is_made};
 
 use request_piece::{Name, Posted};
 use unit_book::{Closing, Delivery, Intake, Interruption, OpenError, Purging, Running, Starting};
@@ -61,16 +61,6 @@ impl StepAnswer {
             | StepAnswer::Collected(None)
             | StepAnswer::NoSuchDcb => false,
             _ => true,
-        }
-    }
-
-    /// The post that the step collected, if it did.
-    pub fn into_post(self) -> Option<Posted>
-        ensures { result ≡ post_collected self }
-    {
-        match self {
-            StepAnswer::Collected(post) => post,
-            _ => None,
         }
     }
 }

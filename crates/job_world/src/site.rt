@@ -1,7 +1,6 @@
 //! The executor: carries out each step of a job on a site without locks.
 
 mod controls;
-mod ending;
 mod unit_steps;
 
 ghost use Rattle.std.specs.Prelude.{◌≡◌, ◌≤◌, ◌<◌, IfOk, IfSome, OnErr, false, length, true};
@@ -29,19 +28,6 @@ pub struct Supply<'a> {
     pub opening: Option<&'a Opening>,
 }
 
-impl<'a> Supply<'a> {
-    /// Supplies neither an EXCP nor extents.
-    pub fn none() -> Self
-        ensures excp { result.excp ≡ None }
-        ensures opening { result.opening ≡ None }
-    {
-        Supply {
-            excp: None,
-            opening: None,
-        }
-    }
-}
-
 /// Units and post rows, and all that a step of a job can do to them.
 #[derive(Drop)]
 pub struct JobSite {
@@ -58,8 +44,8 @@ impl JobSite {
     }
 
     /// Carries out a step: the call of its name, once. It is none if there is no such unit, request or opening, or if a
-    /// run is to do no command. It is none for `Finish`, which is a list of steps ([`JobSite::finish`]). If memory runs
-    /// out, nothing changes, but that some requests of a unit that is settled may have ended.
+    /// run is to do no command. It is none for `Finish`, which is a list of steps. If memory runs out, nothing changes, but that
+    /// some requests of a unit that is settled may have ended.
     pub fn make(&mut self, step: Step, supply: Supply<'_>) -> Result<StepAnswer, AllocError>
         requires issuable { IfSome (option_copied supply.excp) CanIssue }
         ensures makes { IfOk result (λ answer. MakesAtSite (option_copied supply.entry.excp) (option_copied supply.entry.opening) (site_state self.old) answer (site_state self.new) step) }
@@ -78,13 +64,6 @@ impl JobSite {
         ensures { result.now ≡ site_state self.now }
     {
         &self.site
-    }
-
-    /// The units with their books, and the rows.
-    pub fn into_site(self) -> PlainSite<AnyDevice>
-        ensures { result ≡ site_state self }
-    {
-        self.site
     }
 
     /// The call of a step.

@@ -1,7 +1,7 @@
 -- THE SIZES OF ROWS AND BOOKS of a scenario (profile).
 use Rattle.std.specs.Prelude.{ℕ, ◌==◌, if◌then◌else◌, replicate, slice_index_or, slice_set}
-use Rattle.job_scenario.specs.declared.room.RoomLine.{RoomLine}
-use Rattle.job_scenario.specs.declared.room.RoomLine.TheVariants as lines
+use Rattle.locked_steps.specs.declared.room_line.RoomLine.{RoomLine}
+use Rattle.locked_steps.specs.declared.room_line.RoomLine.TheVariants as lines
 use Rattle.locked_steps.specs.declared.rooms.Rooms.{Rooms}
 
 -- without a line there is always room: at most 36,157 lines of an EXCP, of 29 bytes or more, are in 1,048,576 bytes

@@ -2,11 +2,12 @@
 
 ghost use Rattle.std.specs.Prelude.{◌≡◌, ◌≤◌, IfOk, Ok, vec_len};
 
+use crate::line::ScenarioLine;
 use crate::line_steps::LineSteps;
 use crate::plan::Plan;
 use crate::printer::Printer;
 use crate::reader::ScenarioReader;
-use job_scenario::{ScenarioLine, Step};
+use job_scenario::Step;
 use job_script::{FaultName, JobError, LIMIT, Line, Refusal, SetUp};
 use std::alloc::Global;
 use std::io::{Read, Write};

@@ -5,9 +5,10 @@ ghost use Rattle.std.specs.Option.{option_copied};
 ghost use Rattle.job_mount.specs.Requests.{CanIssue};
 
 use crate::answer::write_answer;
+use crate::line::ScenarioLine;
 use crate::task_records::TaskRecords;
 use job_mount::can_issue;
-use job_scenario::{ScenarioLine, Step};
+use job_scenario::Step;
 use job_script::{
     Action, Command, DcbName, Excp, ExcpLine, FaultName, Line, Opening, Refusal, SetUp, SetUpLine,
 };

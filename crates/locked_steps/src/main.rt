@@ -1,6 +1,7 @@
 //! Carries out a scenario on units under locks and real rows. One thread uses them. It prints what `excp step` prints. That uses a
 //! site of the library. The tests compare both.
 //!
+//! - [`line::ScenarioLine`] is what a line says by its words alone.
 //! - [`Dialog`] reads the lines one by one. Its [`Printer`] prints answers and failed expectations.
 //! - [`plan::Plan`] is what the lines before the first event declare.
 //! - [`line_steps::LineSteps`] are the steps of a line, whose names it has compared with the plan.
@@ -14,14 +15,17 @@
 
 mod answer;
 mod dialog;
+mod line;
 mod line_steps;
 mod locked;
 mod plan;
 mod printer;
 mod reader;
+mod room_line;
 mod rooms;
 mod scenario;
 mod task_records;
+mod verb;
 mod view;
 
 use dialog::Dialog;

@@ -3,10 +3,11 @@
 ghost use Rattle.std.specs.Prelude.{◌≡◌, ◌≤◌, All, IfOk, OnOk, vec_len};
 ghost use Rattle.job_mount.specs.Books.{IsFresh};
 
+use crate::line::ScenarioLine;
+use crate::room_line::RoomLine;
 use crate::rooms::Rooms;
 use any_device::AnyDevice;
 use job_mount::{mounted_book, open_dcbs};
-use job_scenario::{RoomLine, ScenarioLine};
 use job_script::{FaultName, JobError, Line, Refusal, SetUp, UnitSetup};
 use std::alloc::Global;
 use unit_book::UnitBook;

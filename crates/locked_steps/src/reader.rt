@@ -1,7 +1,7 @@
 //! The lines of a scenario. A line is read only when it is wanted, so a program may wait for one answer before it writes the
 //! next line.
 
-use job_scenario::ScenarioLine;
+use crate::line::ScenarioLine;
 use job_script::{JobError, LIMIT, Refusal};
 use script_words::Words;
 use std::alloc::Global;

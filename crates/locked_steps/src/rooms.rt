@@ -3,7 +3,7 @@
 ghost use Rattle.std.specs.Prelude.{◌≡◌, ◌==◌, ◌≤◌, not};
 ghost use Rattle.locked_steps.specs.Rooms.{book_size, no_sizes, said_of, size_of, with_said};
 
-use job_scenario::RoomLine;
+use crate::room_line::RoomLine;
 use job_script::LIMIT;
 
 /// The fewest bytes of the line of an EXCP, with its line feed.

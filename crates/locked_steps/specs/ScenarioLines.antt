@@ -10,14 +10,14 @@ use Rattle.job_script.specs.Said.{ActionSaid, LineSaid, says_command, says_excp,
 use Rattle.job_script.specs.Said.{close, excp, purge, purge_task, reset, wait}
 use Rattle.job_script.specs.Lines.{line_of}
 use Rattle.request_piece.specs.declared.scope.Scope.TheVariants as scopes
-use Rattle.job_scenario.specs.declared.room.RoomLine.{RoomLine}
-use Rattle.job_scenario.specs.declared.room.RoomLine.TheVariants as rooms
+use Rattle.locked_steps.specs.declared.room_line.RoomLine.{RoomLine}
+use Rattle.locked_steps.specs.declared.room_line.RoomLine.TheVariants as rooms
 use Rattle.job_scenario.specs.declared.step.Step.{Step}
 use Rattle.job_scenario.specs.declared.step.Step.TheVariants as steps
-use Rattle.job_scenario.specs.declared.verb.EventVerb.{EventVerb}
-use Rattle.job_scenario.specs.declared.verb.EventVerb.TheVariants as verbs
-use Rattle.job_scenario.specs.EventVerbs.{event_verb_of}
-use Rattle.job_scenario.specs.ScenarioSaid.{ScenarioSaid, says_expected, says_line, says_room, says_serve, says_step}
+use Rattle.locked_steps.specs.declared.verb.EventVerb.{EventVerb}
+use Rattle.locked_steps.specs.declared.verb.EventVerb.TheVariants as verbs
+use Rattle.locked_steps.specs.EventVerbs.{event_verb_of}
+use Rattle.locked_steps.specs.ScenarioSaid.{ScenarioSaid, says_expected, says_line, says_room, says_serve, says_step}
 
 -- the number of a unit or a task, alone on its line
 unfoldable pub number_line : List Word → Result ℕ FaultName

@@ -1,10 +1,10 @@
 -- THE FIRST WORD of a line that scripts do not have (profile).
 use Rattle.std.specs.Prelude.{ℕ, List, Option, Some, None, codes, if◌then◌else◌}
 use Rattle.std.specs.Str.{bytes_eq}
-use Rattle.job_scenario.specs.declared.verb.EventVerb.{EventVerb}
-use Rattle.job_scenario.specs.declared.verb.EventVerb.TheVariants.{Room, Take, Start, Run, Interrupt, Deliver, Collect, Settle, Serve}
-use Rattle.job_scenario.specs.declared.verb.EventVerb.TheVariants.{PurgeTaskAt}
-use Rattle.job_scenario.specs.declared.verb.EventVerb.TheVariants.{Finish, Expect}
+use Rattle.locked_steps.specs.declared.verb.EventVerb.{EventVerb}
+use Rattle.locked_steps.specs.declared.verb.EventVerb.TheVariants.{Room, Take, Start, Run, Interrupt, Deliver, Collect, Settle, Serve}
+use Rattle.locked_steps.specs.declared.verb.EventVerb.TheVariants.{PurgeTaskAt}
+use Rattle.locked_steps.specs.declared.verb.EventVerb.TheVariants.{Finish, Expect}
 
 unfoldable pub event_verb_of : List ℕ → Option EventVerb
 event_verb_of word =

@@ -5,12 +5,12 @@ ghost use Rattle.job_script.specs.Said.{says_command};
 ghost use Rattle.job_script.specs.Views.{command_said};
 ghost use Rattle.job_script.specs.Lines.{line_of};
 ghost use Rattle.job_script.specs.Outcomes.{Reads, ReadsAs, Returns, words_in};
-ghost use Rattle.job_scenario.specs.ScenarioLines.{by_event_verb, event_kind, no_wait, number_line, purge_at_line, room_line, run_line, scenario_line, with_no_wait};
-ghost use Rattle.job_scenario.specs.ScenarioSaid.{says_step, scenario_said};
+ghost use Rattle.locked_steps.specs.ScenarioLines.{by_event_verb, event_kind, no_wait, number_line, purge_at_line, room_line, run_line, scenario_line, with_no_wait};
+ghost use Rattle.locked_steps.specs.ScenarioSaid.{says_step, scenario_said};
 
-use crate::room::RoomLine;
-use crate::step::Step;
+use crate::room_line::RoomLine;
 use crate::verb::EventVerb;
+use job_scenario::Step;
 use job_script::forms::{has, has_least, index, mode_of, number_in};
 use job_script::{Action, Command, FaultName, Line, Refusal};
 use request_piece::Scope;
@@ -19,7 +19,7 @@ use std::alloc::Global;
 
 /// A line of a scenario.
 #[derive(Drop)]
-pub enum ScenarioLine {
+pub(crate) enum ScenarioLine {
     /// A line that scripts have too, other than `wait`.
     Script(Line),
     Room(RoomLine),
@@ -32,7 +32,11 @@ pub enum ScenarioLine {
 
 impl ScenarioLine {
     /// Reads the line with this number.
-    pub fn read(alloc: Global, number: usize, line: &Words<'_>) -> Result<ScenarioLine, Refusal>
+    pub(crate) fn read(
+        alloc: Global,
+        number: usize,
+        line: &Words<'_>,
+    ) -> Result<ScenarioLine, Refusal>
         ensures { Returns scenario_said result (scenario_line number line.now.line.now) }
     {
         match event_verb(line) {

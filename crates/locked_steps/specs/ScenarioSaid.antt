@@ -2,10 +2,10 @@
 use Rattle.std.specs.Prelude.{ℕ}
 use Rattle.job_script.specs.Said.{LineSaid}
 use Rattle.job_script.specs.LineViews.{line_said}
-use Rattle.job_scenario.specs.declared.room.RoomLine.{RoomLine}
+use Rattle.locked_steps.specs.declared.room_line.RoomLine.{RoomLine}
 use Rattle.job_scenario.specs.declared.step.Step.{Step}
-use Rattle.job_scenario.specs.declared.line.ScenarioLine.{ScenarioLine}
-use Rattle.job_scenario.specs.declared.line.ScenarioLine.TheVariants as lines
+use Rattle.locked_steps.specs.declared.line.ScenarioLine.{ScenarioLine}
+use Rattle.locked_steps.specs.declared.line.ScenarioLine.TheVariants as lines
 
 -- a line of a script, a room, a step, that a unit is served, or what is expected
 pub data ScenarioSaid : Type 0 where

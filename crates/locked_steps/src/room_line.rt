@@ -2,7 +2,7 @@
 
 /// The size of rows or of a book, as a line says it.
 #[derive(Clone, Copy, PartialEq, Eq, Debug)]
-pub enum RoomLine {
+pub(crate) enum RoomLine {
     /// How many requests each intake row holds.
     Intake(u16),
     /// How many posts each post row holds.

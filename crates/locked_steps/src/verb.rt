@@ -1,13 +1,13 @@
 //! The first word of a line that scripts do not have.
 
 ghost use Rattle.std.specs.Prelude.{◌≡◌};
-ghost use Rattle.job_scenario.specs.EventVerbs.{event_verb_of};
+ghost use Rattle.locked_steps.specs.EventVerbs.{event_verb_of};
 
 use script_words::is_word;
 
 /// The first word of a line that scripts do not have.
 #[derive(Clone, Copy)]
-pub enum EventVerb {
+pub(crate) enum EventVerb {
     Room,
     Take,
     Start,
@@ -25,7 +25,7 @@ pub enum EventVerb {
 impl EventVerb {
     /// What a first word says.
     #[tactic(auto, unfolding(crate::specs::EventVerbs::event_verb_of))]
-    pub fn of(word: &[u8]) -> Option<EventVerb>
+    pub(crate) fn of(word: &[u8]) -> Option<EventVerb>
         ensures { result ≡ event_verb_of word.now }
     {
         let verb = if is_word(word, b"expect") {
