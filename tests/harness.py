@@ -143,7 +143,7 @@ def package_main(job, tools):
 
     for word in WORDS.values():
         word.load()
-    for name in "page_form", "site_files", "stepped", "whole_script":
+    for name in "page_form", "site_files", "stepped", "told_outcomes", "whole_script":
         importlib.import_module(f"excp.command.{name}")
     programs = {"excp_job": job, "excp_tools": tools, "libexcp.so": LIBRARY}
     return lambda words: main(words, lambda name: pathlib.Path(programs[name]))

@@ -84,14 +84,14 @@ EXCLUSIVE = {
     ],
     "step": [("json", "trace"), ("json", "state"), ("html", "json"), ("html", "trace"), ("html", "state")],
     "outcomes": [
-        *(("often", other) for other in ("most-seconds", "whole", "all", "outcome", "scenarios")),
-        *(("outcome", other) for other in ("whole", "all", "scenarios")),
+        *(("often", other) for other in ("most-seconds", "whole", "all", "outcome", "scenarios", "allow")),
+        *(("outcome", other) for other in ("whole", "all", "scenarios", "allow")),
     ],
 }
 
 # A value for each option that takes one.
 VALUES = {"seed": ["1"], "channels": ["2"], "handlers": ["2"], "save": ["0=x"], "often": ["3"], "most-seconds": ["2"]}
-VALUES |= {"outcome": ["0", "0", "1", "1"], "scenarios": ["folder"]}
+VALUES |= {"outcome": ["0", "0", "1", "1"], "scenarios": ["folder"], "allow": ["7F,48"]}
 
 # The ranges of numbers.
 RANGES = [
@@ -143,6 +143,7 @@ REJECTED = [
     (["outcomes", "--load", "7=x", "--load", "07=y"], wrong("outcomes", "--load names each unit once")),
     (["report", "--save", "7=x", "--save", "7=y"], wrong("report", "--save names each unit once")),
     (["outcomes", "--outcome", "0", "0", "1"], wrong("outcomes", "argument --outcome: expected 4 arguments")),
+    (["outcomes", "--allow", "7f"], wrong("outcomes", "argument --allow: '7f': expected completion codes with commas between them, such as 7F,48")),
     (["outcomes", "--outcome", "0", "0", "1", "x"], no_number("outcomes", "outcome", "x", 0, 4_294_967_295)),
     (["convert", "--to", "aws", "x"], wrong("convert", "--to FORMAT and --output OUT go together")),
     (["convert", "--output", "y", "x"], wrong("convert", "--to FORMAT and --output OUT go together")),
@@ -200,7 +201,8 @@ REJECTED_BY_TOOLS = [
     ["report", "load=0"],
     ["report", "load=x=3=name"],
     ["report", "save=0=3"],
-    ["outcomes", "outcome=0,0,1"],
+    ["outcomes", "turn=x"],
+    ["outcomes", "all"],
     ["report", b"load=\xff"],
 ]
 

@@ -442,6 +442,17 @@ def is_compared(setup):
         require((ran.status, ran.err) == (5, ""), "it is not compared, or fails", ran)
 
 
+def codes_are_allowed(setup):
+    """`--allow` judges the codes of all outcomes; of a search that is cut it says that not all were found."""
+    named = "excp: outcome 1 of request 1 of task 0 to unit 0 has code 41: line 7\n"
+    for codes, status, error in ("7F,48", 5, named), ("41,48,7F", 0, ""):
+        ran = setup.run("outcomes", "--allow", codes, script=RELATED)
+        require((ran.status, ran.err) == (status, error), "another status or message", ran)
+        require(ran.out == setup.run("outcomes", script=RELATED).out, "another output", ran)
+    ran = setup.run("outcomes", "--allow", "41,48,7F", "--most-states", "1", script=RELATED)
+    require((ran.status, ran.err) == (6, ""), "a search that is cut is judged", ran)
+
+
 def shares_are_counted(setup):
     """`--often` runs seeds, whose posts are outcomes, and counts them."""
     script, _, wanted = BY_HAND["a halt"]
@@ -548,6 +559,7 @@ def cases(setup):
     yield Case("hints hold", lambda: hints_hold(setup), ORIGIN)
     yield Case("hints lead to an end", lambda: hints_lead_to_an_end(setup), ORIGIN)
     yield Case("runs by seeds", lambda: is_compared(setup), ORIGIN)
+    yield Case("codes that are allowed", lambda: codes_are_allowed(setup), ORIGIN)
     yield Case("shares of runs", lambda: shares_are_counted(setup), ORIGIN)
     yield Case("a search that takes long", lambda: is_ended(setup), ORIGIN)
     yield Case("many requests and a halt", lambda: is_quick(setup), ORIGIN)

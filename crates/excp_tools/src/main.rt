@@ -1,7 +1,7 @@
 //! `excp_tools` has what the words `report` and `outcomes` run. The package python/excp, whose command is `excp`, has judged all that
-//! its user types. It hands over plain words ([`words`]), the script as standard input, in plain lines, and the files of media,
-//! which it has opened. `report` runs a script on threads, and prints the record of the run (docs/REPORT.md). `outcomes` prints the
-//! posts over all orders of steps.
+//! its user types. It hands over plain words ([`words`]), a script in plain lines, and the files of media, which it has opened.
+//! `report` runs the script of standard input on threads, and prints the record of the run (docs/REPORT.md). `outcomes` searches for
+//! the posts over all orders of steps, and answers what the package asks ([`outcomes`]).
 //!
 //! What is wrong with a script, an image, or a unit that has neither, the package says: the statuses from [`REFUSED`] on are for
 //! it.
@@ -9,6 +9,7 @@
 //! Tests: `tests/run command_line`, and every group that runs the program.
 #![tactic(auto)]
 
+mod answers;
 mod file_name;
 mod images;
 mod outcomes;

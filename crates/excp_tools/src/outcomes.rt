@@ -1,101 +1,121 @@
-//! Every outcome of a script, and the file of their scenarios.
+//! The search for every outcome of a job. The package asks, and tells what it is answered.
+//!
+//! Standard input has a question on each line:
+//!
+//!     job LENGTH            first: the text of the script follows, which is searched
+//!     try STATES LENGTH     the text of a changed script follows, which is searched up to so many states
+//!     steps REQUEST PLACE   the steps that lead to an outcome of a request, by its place among them
+//!     whole PLACE           the steps that lead to a whole output
+//!     run                   the steps of some whole run
+//!
+//! Requests are counted from 0, by tasks and then as a task issues them. The answers are lines of JSON ([`crate::answers`]).
 
+use crate::UNFIT;
+use crate::answers::{write_found, write_steps};
 use crate::pace::Pace;
-use crate::saver::{emptied, fits, not_written};
+use crate::saver::fits;
 use crate::screen::Screen;
-use crate::script::{SizedScript, read_sized};
-use crate::words::{OpenedFile, OutcomePlace, Words};
-use crate::{REJECTED, UNFIT};
+use crate::script::{SizedScript, sized};
+use crate::words::{USAGE, Words};
+use any_device::AnyDevice;
+use device_port::Device;
 use job_media::{MountedImages, mount_images};
-use job_outcomes::{
-    ChosenOutcome, ChosenScenario, OutcomeQuery, OutcomeVerdict, ScenarioKeeper,
-    scenario_of_outcome, write_outcomes, write_shares,
-};
-use job_script::JobError;
+use job_script::{JobError, Script};
 use medium_image::Image;
-use request_piece::Name;
+use numbered_job::{Step, opened_job};
+use outcome_search::{Limits, Search, SearchWatch};
+use std::alloc::{AllocError, Global};
 use std::cell::Cell;
-use std::fs::File;
-use std::io;
-use std::io::{BufWriter, Write};
+use std::io::{BufRead, BufReader, BufWriter, ErrorKind, Read, Write};
+use unit_book::UnitBook;
 
 /// The most bytes that a search takes, about.
 const MOST_BYTES: usize = 512 << 20;
 
-/// The exit status if a request has more than one outcome.
-const SEVERAL: u8 = 5;
+/// The most bytes of a script, also of one that was changed.
+const MOST_TEXT: usize = 1 << 22;
 
-/// The exit status if not all was found.
-const NOT_ALL: u8 = 6;
-
-/// The exit status of an error of the program.
-const FAILED: u8 = 3;
-
-/// Writes scenarios to one file, each after a line `NAME BYTES`. The first that cannot be written gives a message, and is the
-/// last.
+/// The questions.
 #[derive(Drop)]
-struct Scenarios<'a> {
-    rt: &'a HostRuntime,
-    output: Option<&'a OpenedFile>,
-    file: Option<File>,
-    /// The exit status.
-    status: u8,
+struct Questions<R: Read + Drop> {
+    alloc: Global,
+    reader: BufReader<R>,
+    line: Vec<u8>,
 }
 
-impl<'a> Scenarios<'a> {
-    /// Begins the file, if one is asked for.
-    fn new(rt: &'a HostRuntime, words: &'a Words) -> Self {
-        let mut scenarios = Scenarios {
-            rt,
-            output: words.scenarios.as_ref(),
-            file: None,
-            status: 0,
+/// A question.
+#[derive(Clone, Copy)]
+enum Question {
+    Job { length: usize },
+    Try { states: u32, length: usize },
+    Steps { request: u16, place: usize },
+    Whole { place: usize },
+    Run,
+}
+
+impl<R: Read + Drop> Questions<R> {
+    /// Before the first one.
+    fn new(alloc: Global, reader: R) -> Result<Self, JobError> {
+        let Ok(reader) = BufReader::new(alloc, reader) else {
+            return Err(JobError::NoMemory);
         };
-        if let Some(output) = scenarios.output {
-            match emptied(rt, output) {
-                Ok(file) => scenarios.file = Some(file),
-                Err(error) => scenarios.status = not_written(rt, output, error.kind()),
-            }
+        let line = Vec::new(alloc);
+        Ok(Questions {
+            alloc,
+            reader,
+            line,
+        })
+    }
+
+    /// The next one. It is none at the end, and after a line that is no question.
+    fn next(&mut self) -> Result<Option<Question>, JobError> {
+        self.line.clear();
+        match self.reader.read_until(b'\n', &mut self.line) {
+            Ok(_) => Ok(question_of(&self.line)),
+            Err(error) if error.kind() == ErrorKind::OutOfMemory => Err(JobError::NoMemory),
+            Err(_) => Err(JobError::Unreadable),
         }
-        scenarios
     }
 
-    /// Writes a scenario with this name.
-    fn write(&mut self, name: &str, text: &[u8]) {
-        if let (Some(output), Some(file)) = (self.output, &mut self.file)
-            && let Err(error) = write_named(file, name, text)
-        {
-            self.status = not_written(self.rt, output, error.kind());
+    /// The text of a script, which comes after its question.
+    fn text(&mut self, length: usize) -> Result<Vec<u8>, JobError> {
+        let mut text = vec![in self.alloc; 0; length.min(MOST_TEXT)]?;
+        match self.reader.read_exact(&mut text) {
+            Ok(()) => Ok(text),
+            Err(_) => Err(JobError::Unreadable),
         }
     }
 }
 
-fn write_named(file: &mut File, name: &str, text: &[u8]) -> io::Result<()> {
-    writeln!(file, "{name} {}", text.len())?;
-    file.write_all(text)
+/// What a line asks.
+fn question_of(line: &[u8]) -> Option<Question> {
+    let line = std::str::from_utf8(line).ok()?;
+    let (word, rest) = line
+        .trim_end()
+        .split_once(' ')
+        .unwrap_or((line.trim_end(), ""));
+    let (first, second) = rest.split_once(' ').unwrap_or((rest, ""));
+    match word {
+        "job" => Some(Question::Job {
+            length: first.parse().ok()?,
+        }),
+        "try" => Some(Question::Try {
+            states: first.parse().ok()?,
+            length: second.parse().ok()?,
+        }),
+        "steps" => Some(Question::Steps {
+            request: first.parse().ok()?,
+            place: second.parse().ok()?,
+        }),
+        "whole" => Some(Question::Whole {
+            place: first.parse().ok()?,
+        }),
+        "run" => Some(Question::Run),
+        _ => None,
+    }
 }
 
-impl<'a> ScenarioKeeper for Scenarios<'a> {
-    fn is_wanted(&self) -> bool {
-        self.file.is_some() && self.status == 0
-    }
-
-    fn keep(&mut self, unit: u16, name: Name, number: usize, text: &[u8]) -> Result<(), JobError> {
-        let Name { task, seq } = name;
-        let file = format!(in self.rt.alloc(); "post-{task}-{unit}-{seq}-{number}.scenario")?;
-        self.write(file.as_str(), text);
-        Ok(())
-    }
-
-    fn keep_output(&mut self, number: usize, text: &[u8]) -> Result<(), JobError> {
-        let file = format!(in self.rt.alloc(); "output-{number}.scenario")?;
-        self.write(file.as_str(), text);
-        Ok(())
-    }
-}
-
-/// Prints every outcome of the script of standard input, and returns the exit status. `is_broken` is set once nothing reads any
-/// more what is printed.
+/// Answers the questions of standard input, and returns the exit status. `is_broken` is set once nothing reads the answers any more.
 pub fn outcomes(
     rt: &HostRuntime,
     words: &Words,
@@ -103,131 +123,132 @@ pub fn outcomes(
     is_broken: &Cell<bool>,
 ) -> Result<u8, JobError> {
     let alloc = rt.alloc();
-    let SizedScript { text, script } = read_sized(alloc, &mut rt.stdin(), &images)?;
+    let mut questions = Questions::new(alloc, rt.stdin())?;
+    let Some(Question::Job { length }) = questions.next()? else {
+        return Ok(USAGE);
+    };
+    let text = questions.text(length)?;
+    let SizedScript { script, .. } = sized(alloc, &text, &images)?;
     if !fits(alloc, words, &script.set_up.units) {
         return Ok(UNFIT);
     }
     let MountedImages { devices, .. } = mount_images(alloc, &script.set_up.units, images)?;
-    let mut pace = Pace::new(rt, words.seconds, MOST_BYTES);
-    if let Some(place) = words.outcome {
-        let scenario = match chosen_of(place) {
-            Some(chosen) => scenario_of_outcome(
-                alloc,
-                &text,
-                &script,
-                devices,
-                &query_of(words),
-                chosen,
-                &mut pace,
-            )?,
-            // no job has such a unit or task
-            None => ChosenScenario {
-                text: None,
-                is_complete: true,
-            },
-        };
-        return print_scenario(rt, is_broken, place, &scenario);
-    }
     let screen = Screen::new(rt.stdout(), is_broken);
     let Ok(mut out) = BufWriter::new(alloc, screen) else {
         return Err(JobError::NoMemory);
     };
-    if words.often > 0 {
-        let (seeds, turn) = (words.often, words.turn);
-        let several = write_shares(alloc, &text, &script, devices, seeds, turn, &mut out)?;
-        out.flush().or(Err(JobError::NotWritten))?;
-        return Ok(if several { SEVERAL } else { 0 });
-    }
-    let mut scenarios = Scenarios::new(rt, words);
-    if scenarios.status != 0 {
-        return Ok(scenarios.status);
-    }
-    let verdict = write_outcomes(
+    let (job, books) = opened_job(alloc, &script, devices)?;
+    let mut search = Search::new(alloc, &job, copies(alloc, &books)?, words.turn, words.whole)?;
+    let mut pace = Pace::new(rt, words.seconds, MOST_BYTES);
+    let limits = Limits {
+        states: words.states,
+        bytes: MOST_BYTES,
+    };
+    search.explore(limits, &mut pace);
+    said(write_found(&mut out, &search, job.requests.len()))?;
+    let trials = Trials {
         alloc,
-        &text,
-        &script,
-        devices,
-        &query_of(words),
-        &mut out,
-        &mut scenarios,
-        &mut pace,
-    )?;
-    out.flush().or(Err(JobError::NotWritten))?;
-    let status = status_of(rt, verdict);
-    Ok(if scenarios.status == 0 {
-        status
-    } else {
-        scenarios.status
-    })
-}
-
-/// The outcome at a place, if a job may have such a unit and such a task.
-fn chosen_of(place: OutcomePlace) -> Option<ChosenOutcome> {
-    let name = Name {
-        task: u16::try_from(place.task).ok()?,
-        seq: place.request,
-    };
-    Some(ChosenOutcome {
-        unit: u16::try_from(place.unit).ok()?,
-        name,
-        number: place.number as usize,
-    })
-}
-
-/// Prints the scenario of the outcome at a place, or that there is none, and returns the exit status.
-fn print_scenario(
-    rt: &HostRuntime,
-    is_broken: &Cell<bool>,
-    place: OutcomePlace,
-    scenario: &ChosenScenario,
-) -> Result<u8, JobError> {
-    let OutcomePlace {
-        task,
-        unit,
-        request,
-        number,
-    } = place;
-    if !scenario.is_complete {
-        let _ = eprintln!(rt;
-            "excp: the search ended early: in a longer one this outcome may have another number"
-        );
-    }
-    let Some(text) = &scenario.text else {
-        let _ = eprintln!(rt;
-            "excp: no outcome {number} of request {request} of task {task} to unit {unit} was found"
-        );
-        return Ok(REJECTED);
-    };
-    let mut screen = Screen::new(rt.stdout(), is_broken);
-    screen.write_all(text).or(Err(JobError::NotWritten))?;
-    screen.flush().or(Err(JobError::NotWritten))?;
-    Ok(if scenario.is_complete { 0 } else { NOT_ALL })
-}
-
-/// The exit status that says what the outcomes come to. A search that is wrong has a message.
-fn status_of(rt: &HostRuntime, verdict: OutcomeVerdict) -> u8 {
-    match verdict {
-        OutcomeVerdict::Missed { seed, unit, name } => {
-            let Name { task, seq } = name;
-            let _ = eprintln!(rt;
-                "excp: error of this program: the run by seed {seed} posts another outcome of request {seq} of task {task} to unit {unit}; please report it with the script"
-            );
-            FAILED
-        }
-        OutcomeVerdict::Deterministic => 0,
-        OutcomeVerdict::Several => SEVERAL,
-        OutcomeVerdict::NotAll => NOT_ALL,
-    }
-}
-
-/// What is asked of the search.
-fn query_of(words: &Words) -> OutcomeQuery {
-    OutcomeQuery {
+        books: &books,
         turn: words.turn,
-        most_states: words.states,
-        most_bytes: MOST_BYTES,
-        whole: words.whole,
-        all: words.all,
-        seeds: words.seeds,
+        bytes: MOST_BYTES.saturating_sub(search.bytes()),
+    };
+    for _ in 0..u64::MAX {
+        said(out.flush())?;
+        let Some(question) = questions.next()? else {
+            break;
+        };
+        match question {
+            Question::Job { .. } => return Ok(USAGE),
+            Question::Try { states, length } => {
+                let text = questions.text(length)?;
+                trials.answer(&text, states, &mut out)?;
+            }
+            _ => {
+                let steps = steps_of(&mut search, question)?;
+                said(write_steps(&mut out, steps.as_deref()))?;
+            }
+        }
     }
+    Ok(0)
+}
+
+/// The steps that a question asks for.
+fn steps_of(search: &mut Search<'_>, question: Question) -> Result<Option<Vec<Step>>, AllocError> {
+    match question {
+        Question::Steps { request, place } => {
+            let Some(outcome) = search.outcomes(request).get(place).copied() else {
+                return Ok(None);
+            };
+            search.witness(request, outcome.key)
+        }
+        Question::Whole { place } => search.whole_witness(place),
+        _ => search.run(),
+    }
+}
+
+/// Searches of changed scripts.
+#[derive(Drop)]
+struct Trials<'b> {
+    alloc: Global,
+    /// Whose devices the units have.
+    books: &'b [UnitBook<AnyDevice>],
+    turn: u32,
+    /// The most bytes that one takes, about.
+    bytes: usize,
+}
+
+/// Lets a search go on.
+#[derive(Drop)]
+struct Patience;
+
+impl SearchWatch for Patience {
+    fn may_go_on(&mut self, _: usize, _: usize) -> bool {
+        true
+    }
+
+    fn end(&mut self) {}
+}
+
+impl<'b> Trials<'b> {
+    /// Searches a changed script, and writes what was found.
+    fn answer<W: Write>(&self, text: &[u8], states: u32, out: &mut W) -> Result<(), JobError> {
+        let script = Script::parse(self.alloc, text)?;
+        let (job, books) = opened_job(self.alloc, &script, devices(self.alloc, self.books)?)?;
+        let mut search = Search::new(self.alloc, &job, books, self.turn, false)?;
+        let limits = Limits {
+            states,
+            bytes: self.bytes,
+        };
+        search.explore(limits, &mut Patience);
+        said(write_found(out, &search, job.requests.len()))
+    }
+}
+
+/// Copies of the devices of books.
+fn devices(
+    alloc: Global,
+    books: &[UnitBook<AnyDevice>],
+) -> Result<Vec<Option<AnyDevice>>, AllocError> {
+    let mut copies = Vec::with_capacity(alloc, books.len())?;
+    for book in books {
+        copies.push(Some(book.device().copy()?))?;
+    }
+    Ok(copies)
+}
+
+/// Copies of books.
+fn copies(
+    alloc: Global,
+    books: &[UnitBook<AnyDevice>],
+) -> Result<Vec<UnitBook<AnyDevice>>, AllocError> {
+    let mut copies = Vec::with_capacity(alloc, books.len())?;
+    for book in books {
+        copies.push(book.copy()?)?;
+    }
+    Ok(copies)
+}
+
+/// What a write comes to.
+fn said(written: std::io::Result<()>) -> Result<(), JobError> {
+    written.or(Err(JobError::NotWritten))
 }

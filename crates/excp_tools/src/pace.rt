@@ -1,13 +1,13 @@
 //! How far a search is, on a terminal, and how long it may take.
 
-use job_outcomes::SearchWatch;
+use outcome_search::SearchWatch;
 use std::io::IsTerminal;
 use std::time::Instant;
 
 /// From this second of a search on, a line on standard error says how far it is.
 const FIRST: u64 = 2;
 
-/// Watches a search. It ends the search after some seconds, and the printing after as many more. If standard error is a terminal, a
+/// Watches a search. It ends the search after some seconds. If standard error is a terminal, a
 /// line there says each second how many states were found, and how much memory they take.
 #[derive(Drop)]
 pub struct Pace<'a> {
@@ -57,10 +57,6 @@ impl<'a> SearchWatch for Pace<'a> {
             );
         }
         seconds < self.most_seconds
-    }
-
-    fn has_time(&self) -> bool {
-        self.seconds() < self.most_seconds.saturating_mul(2)
     }
 
     fn end(&mut self) {

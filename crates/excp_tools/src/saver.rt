@@ -1,4 +1,4 @@
-//! Files that the package has opened for what a run leaves: media, and scenarios.
+//! Files that the package has opened for the media that a run leaves.
 
 use crate::file_name::FileName;
 use crate::progress::Progress;
@@ -73,7 +73,7 @@ impl<'a> Saver<'a> {
 }
 
 /// Opens a file to be written from its first byte on.
-pub fn emptied(rt: &HostRuntime, output: &OpenedFile) -> io::Result<File> {
+fn emptied(rt: &HostRuntime, output: &OpenedFile) -> io::Result<File> {
     OpenOptions::new()
         .write(true)
         .truncate(true)
@@ -81,7 +81,7 @@ pub fn emptied(rt: &HostRuntime, output: &OpenedFile) -> io::Result<File> {
 }
 
 /// Prints why a file is not written, and returns the exit status.
-pub fn not_written(rt: &HostRuntime, output: &OpenedFile, kind: ErrorKind) -> u8 {
+fn not_written(rt: &HostRuntime, output: &OpenedFile, kind: ErrorKind) -> u8 {
     let why = match kind {
         ErrorKind::OutOfMemory => return ended_by(rt, JobError::NoMemory),
         ErrorKind::StorageFull => "the disk is full",

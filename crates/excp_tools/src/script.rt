@@ -8,10 +8,9 @@ use medium_image::Image;
 use std::alloc::Global;
 use std::io::Read;
 
-/// A script with its text, in which the units with an image have its sizes.
+/// A script, in which the units with an image have its sizes.
 #[derive(Drop)]
 pub struct SizedScript {
-    pub text: Vec<u8>,
     pub script: Script,
     ghost tasks: { (1 ≤ script.set_up.tasks) × (script.set_up.tasks ≤ 64) },
     ghost units: { (1 ≤ vec_len script.set_up.units) × (vec_len script.set_up.units ≤ 64) },
@@ -23,9 +22,16 @@ pub fn read_sized<I: Read>(
     input: &mut I,
     images: &[Option<Image>],
 ) -> Result<SizedScript, JobError> {
-    let text = read_script(alloc, input)?;
+    sized(alloc, &read_script(alloc, input)?, images)
+}
+
+/// The script of a text.
+pub fn sized(
+    alloc: Global,
+    text: &[u8],
+    images: &[Option<Image>],
+) -> Result<SizedScript, JobError> {
     let sizes = sizes_of(alloc, images)?;
-    let text = with_sizes(alloc, &text, &sizes)?;
-    let script = Script::parse(alloc, &text)?;
-    Ok(SizedScript { text, script })
+    let script = Script::parse(alloc, &with_sizes(alloc, text, &sizes)?)?;
+    Ok(SizedScript { script })
 }

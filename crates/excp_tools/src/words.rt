@@ -12,7 +12,7 @@ use std::env;
 use std::io::ErrorKind;
 
 /// The exit status of words that the package does not hand over.
-const USAGE: u8 = 2;
+pub(crate) const USAGE: u8 = 2;
 
 /// What is to be done with a script.
 #[derive(Clone, Copy)]
@@ -43,15 +43,6 @@ pub struct UnitFile {
     pub file: OpenedFile,
 }
 
-/// An outcome: the numbers of its task, its unit and the request, and its own.
-#[derive(Clone, Copy)]
-pub struct OutcomePlace {
-    pub task: u32,
-    pub unit: u32,
-    pub request: u32,
-    pub number: u32,
-}
-
 /// What is asked for.
 #[derive(Drop)]
 pub struct Words {
@@ -64,18 +55,12 @@ pub struct Words {
     pub saves: Vec<UnitFile>,
     channels: u8,
     handlers: u8,
-    /// How many commands a program does between two steps of others, the most states and seconds of a search, the runs by seeds that
-    /// it is compared with, and those that take its place.
+    /// How many commands a program does between two steps of others, and the most states and seconds of a search.
     pub turn: u32,
     pub states: u32,
     pub seconds: u64,
-    pub seeds: u32,
-    pub often: u32,
+    /// Whether whole outputs are sought.
     pub whole: bool,
-    pub all: bool,
-    pub outcome: Option<OutcomePlace>,
-    /// The file of all scenarios.
-    pub scenarios: Option<OpenedFile>,
 }
 
 impl Words {
@@ -92,12 +77,7 @@ impl Words {
             turn: 64,
             states: 1_000_000,
             seconds: u64::MAX,
-            seeds: 20,
-            often: 0,
             whole: false,
-            all: false,
-            outcome: None,
-            scenarios: None,
         }
     }
 
@@ -123,9 +103,7 @@ impl Words {
         match name {
             "load" => return added(alloc, &mut self.loads, value),
             "save" => return added(alloc, &mut self.saves, value),
-            "scenarios" => return put(&mut self.scenarios, opened(alloc, value)?),
             "whole" => self.whole = true,
-            "all" => self.all = true,
             _ => return Ok(self.set(name, value).is_some()),
         }
         Ok(true)
@@ -135,15 +113,12 @@ impl Words {
     fn set(&mut self, name: &str, value: &str) -> Option<()> {
         match name {
             "form" => self.form = Some(form_of(value)?),
-            "outcome" => self.outcome = Some(place_of(value)?),
             "channels" => self.channels = value.parse().ok()?,
             "handlers" => self.handlers = value.parse().ok()?,
             "most" => self.most = value.parse().ok()?,
             "turn" => self.turn = value.parse().ok()?,
             "states" => self.states = value.parse().ok()?,
             "seconds" => self.seconds = value.parse().ok()?,
-            "seeds" => self.seeds = value.parse().ok()?,
-            "often" => self.often = value.parse().ok()?,
             _ => return None,
         }
         Some(())
@@ -219,19 +194,6 @@ fn form_of(value: &str) -> Option<Form> {
     }
 }
 
-/// The outcome at `T,U,N,K`.
-fn place_of(value: &str) -> Option<OutcomePlace> {
-    let (task, rest) = value.split_once(',')?;
-    let (unit, rest) = rest.split_once(',')?;
-    let (request, number) = rest.split_once(',')?;
-    Some(OutcomePlace {
-        task: task.parse().ok()?,
-        unit: unit.parse().ok()?,
-        request: request.parse().ok()?,
-        number: number.parse().ok()?,
-    })
-}
-
 /// The file of `FD=NAME`.
 fn opened(alloc: Global, value: &str) -> Result<Option<OpenedFile>, AllocError> {
     let Some((descriptor, name)) = value.split_once('=') else {
@@ -240,12 +202,6 @@ fn opened(alloc: Global, value: &str) -> Result<Option<OpenedFile>, AllocError> 
     let path = format!(in alloc; "/proc/self/fd/{descriptor}")?;
     let name = String::from_str(alloc, name)?;
     Ok(Some(OpenedFile { path, name }))
-}
-
-/// Keeps a file. Returns whether there is one.
-fn put(place: &mut Option<OpenedFile>, file: Option<OpenedFile>) -> Result<bool, AllocError> {
-    *place = file;
-    Ok(place.is_some())
 }
 
 /// Adds the file of `U=FD=NAME`. Returns whether the value is one.

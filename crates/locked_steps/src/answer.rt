@@ -1,7 +1,7 @@
 //! The answers of events, as text.
 
+use crate::step_answer::{Issuing, StepAnswer};
 use crate::task_records::TaskRecords;
-use job_world::{Issuing, StepAnswer};
 use post_lines::write_posted;
 use request_piece::{Name, Posted};
 use std::alloc::AllocError;

@@ -7,8 +7,8 @@ use crate::line_steps::LineSteps;
 use crate::plan::Plan;
 use crate::printer::Printer;
 use crate::reader::ScenarioReader;
-use job_scenario::Step;
 use job_script::{FaultName, JobError, LIMIT, Line, Refusal, SetUp};
+use numbered_job::Step;
 use std::alloc::Global;
 use std::io::{Read, Write};
 

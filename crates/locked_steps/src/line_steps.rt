@@ -6,13 +6,14 @@ ghost use Rattle.job_mount.specs.Requests.{CanIssue};
 
 use crate::answer::write_answer;
 use crate::line::ScenarioLine;
+use crate::locked::Supply;
+use crate::step_answer::StepAnswer;
 use crate::task_records::TaskRecords;
 use job_mount::can_issue;
-use job_scenario::Step;
 use job_script::{
     Action, Command, DcbName, Excp, ExcpLine, FaultName, Line, Opening, Refusal, SetUp, SetUpLine,
 };
-use job_world::{StepAnswer, Supply};
+use numbered_job::Step;
 use request_piece::Scope;
 use std::alloc::AllocError;
 use unit_book::{Delivery, Mode};

@@ -5,18 +5,25 @@ ghost use Rattle.std.specs.Option.{option_copied};
 ghost use Rattle.excp_system.specs.Drained.{ArePlaced};
 ghost use Rattle.job_mount.specs.Requests.{CanIssue};
 
+use crate::step_answer::{Issuing, StepAnswer};
 use crate::view::View;
 use any_device::AnyDevice;
 use excp_system::{Opened, System, Task, UnitState};
 use job_mount::request;
-use job_scenario::Step;
 use job_script::{Excp, Opening};
-use job_world::{Issuing, StepAnswer, Supply};
+use numbered_job::Step;
 use post_ledger::finish;
 use request_piece::{Posted, Scope};
 use std::alloc::{AllocError, Global};
 use std::sync::Wait;
 use unit_book::{DcbError, OpenError, UnitBook};
+
+/// What a step brings: a push its EXCP, an open its opening.
+#[derive(Clone, Copy)]
+pub struct Supply<'a> {
+    pub excp: Option<&'a Excp>,
+    pub opening: Option<&'a Opening>,
+}
 
 /// The units of a site under their locks, and its tasks.
 #[derive(Drop)]
@@ -32,7 +39,7 @@ pub struct Locked<'a, 'r, S: Opened<AnyDevice>, R: Wait> {
 }
 
 impl<'a, 'r, S: Opened<AnyDevice>, R: Wait> Locked<'a, 'r, S, R> {
-    /// Carries out a step, as [`job_world::JobSite::make`] does.
+    /// Carries out a step: the call of its name, once. It is none if there is no such unit, request or opening.
     pub fn make(
         &mut self,
         alloc: Global,

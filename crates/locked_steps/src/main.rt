@@ -24,6 +24,7 @@ mod reader;
 mod room_line;
 mod rooms;
 mod scenario;
+mod step_answer;
 mod task_records;
 mod verb;
 mod view;

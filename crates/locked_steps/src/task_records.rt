@@ -1,7 +1,7 @@
 //! What the requests of tasks show.
 
+use crate::step_answer::{Issuing, StepAnswer};
 use job_script::Excp;
-use job_world::{Issuing, StepAnswer};
 use request_piece::{Name, Posted};
 use run_record::TaskRecord;
 use std::alloc::{AllocError, Global};

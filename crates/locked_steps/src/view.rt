@@ -3,12 +3,11 @@
 
 use crate::answer::write_name;
 use any_device::AnyDevice;
-use job_scenario::mode_word;
 use post_lines::{End, write_post};
 use request_piece::{Name, Scope};
 use std::alloc::{AllocError, Global};
 use std::io::{Result as IoResult, Write};
-use unit_book::{DcbState, Entry, ProcessingMethod, UnitBook};
+use unit_book::{DcbState, Entry, Mode, ProcessingMethod, UnitBook};
 use unit_world::{ActiveState, active_request};
 
 /// Which of them are printed.
@@ -173,4 +172,12 @@ fn write_dcbs<W: Write>(out: &mut W, book: &UnitBook<AnyDevice>) -> IoResult<()>
         }
     }
     Ok(())
+}
+
+/// The word of a mode of a purge.
+fn mode_word(mode: Mode) -> &'static str {
+    match mode {
+        Mode::Halt => "halt",
+        Mode::Quiesce => "quiesce",
+    }
 }

@@ -1,4 +1,3 @@
--- A script's commands and requests, numbered; how many requests a job has, and the room that its books have.
-pub mod Counts
+-- A script's commands and requests, numbered; and the room that its books have.
 pub mod Numbering
 pub mod Rooms

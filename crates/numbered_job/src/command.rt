@@ -1,6 +1,6 @@
 //! A command of a task that is one step.
 
-use job_scenario::Step;
+use crate::step::Step;
 
 /// A command of a task that is one step at one unit, or a wait. The purges that are parts of one purge of a task have its
 /// line.

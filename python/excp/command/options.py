@@ -14,6 +14,8 @@ MOST = 18_446_744_073_709_551_615
 _WORKERS = ("channels", 16, "channel workers"), ("handlers", 8, "handlers of interruptions")
 
 _DIGITS = re.compile(r"0*([0-9]{1,20})")
+
+_CODES = re.compile(r"[0-9A-F]{2}(,[0-9A-F]{2})*")
 _UNIT_FILE = re.compile(r"0*([0-9]|[1-5][0-9]|6[0-3])=(.+)", re.DOTALL)
 
 # Of an option, the others that may not come with it.
@@ -32,6 +34,14 @@ def number(least: int, most: int) -> Callable[[str], int]:
         return value
 
     return read
+
+
+def codes(word: str) -> Sequence[str]:
+    """The type of an option that takes completion codes."""
+    if not _CODES.fullmatch(word):
+        expected = "expected completion codes with commas between them, such as 7F,48"
+        raise argparse.ArgumentTypeError(f"'{word}': {expected}")
+    return word.split(",")
 
 
 def add_workers(parser: argparse.ArgumentParser) -> None:

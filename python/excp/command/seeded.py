@@ -23,7 +23,7 @@ def carry_out(order: Order, job: WholeScript, seed: int, form: Form) -> int:
     the exit status. Raises Ended."""
     with site_files(order, job.units) as files:
         images = files.measured()
-        if _is_rejected(order, job, images):
+        if is_rejected(order, job, images):
             return REJECTED
         schedule = Schedule(
             Job(with_sizes(job.script.script, images)),
@@ -36,7 +36,7 @@ def carry_out(order: Order, job: WholeScript, seed: int, form: Form) -> int:
     return 0
 
 
-def _is_rejected(order: Order, job: WholeScript, images: Images) -> bool:
+def is_rejected(order: Order, job: WholeScript, images: Images) -> bool:
     """Whether a script has a fault. Prints what is found in it then. Raises Ended, and
     Unwritten."""
     findings = job.findings(images)

@@ -66,6 +66,10 @@ class SiteFiles:
         """The images, all of which are judged. Raises Ended."""
         return load_images(name_of(self._order.script), self._order.loads)
 
+    def opened(self) -> Mapping[int, BinaryIO]:
+        """The files of the images."""
+        return self._plain
+
     def contents(self) -> Mapping[int, bytes]:
         """The bytes of the images. Raises OSError."""
         for file in self._plain.values():

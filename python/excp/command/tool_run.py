@@ -8,12 +8,10 @@ from __future__ import annotations
 
 import contextlib
 import os
-import tempfile
 from dataclasses import replace
 from enum import IntEnum
 from typing import AbstractSet, Iterator, List, Optional, Tuple
 
-from ..files.folder import ScenarioFolder
 from ..files.new_files import NewFiles
 from ..files.refusals import Unwritten
 from ..files.signals import end_if_asked, held_back
@@ -47,8 +45,8 @@ class Status(IntEnum):
     READER_GONE = 11
 
 
-# The ends after which the new files are whole: two of them come after a search alone.
-_GOOD = (0, 5, 6)
+# The end after which the new files are whole.
+_GOOD = 0
 
 
 def carry_out(order: Order, source: WholeScript) -> int:
@@ -56,7 +54,7 @@ def carry_out(order: Order, source: WholeScript) -> int:
     try:
         with contextlib.ExitStack() as stack:
             status = _Run(order, source, stack).status()
-        return _said(order, source, status)
+        return said(order, source, status)
     except (Unreadable, Unwritten) as error:
         raise of_file(error.name, error.sentence) from None
     except OSError as error:
@@ -79,8 +77,6 @@ class _Run:
             self._hand(f"load={unit}", image.fileno(), name)
         self._words.insert(0, str(order.program_of(PROGRAM)))
         with held_back() as mask:
-            if order.folder is not None:
-                return self._into_folder(order.folder, targets, mask)
             return self._ended(targets, mask)
 
     def _hand(self, word: str, descriptor: int, name: str) -> None:
@@ -89,23 +85,6 @@ class _Run:
         self._stack.callback(os.close, number)
         self._files.append(number)
         self._words.append(f"{word}={number}={name_in_texts(name)}")
-
-    def _into_folder(self, name: str, targets: Targets, mask: AbstractSet[int]) -> int:
-        """A run whose scenarios go into a folder, once all are found."""
-        folder = ScenarioFolder(name, targets)
-        try:
-            for removed in folder.prepare():
-                say_removed(*removed)
-            scenarios = self._stack.enter_context(tempfile.TemporaryFile())
-            self._hand("scenarios", scenarios.fileno(), name)
-            status = self._ended(targets, mask)
-            if status in _GOOD:
-                scenarios.seek(0)
-                for removed in folder.write_all(scenarios):
-                    say_removed(*removed)
-            return status
-        finally:
-            folder.remove_new()
 
     def _ended(self, targets: Targets, mask: AbstractSet[int]) -> int:
         """A run whose new files take their places after a good end."""
@@ -118,9 +97,9 @@ class _Run:
             status, failure = self._ended_and_printed(mask)
             end_if_asked()
             # the media are saved although nothing reads the report
-            if status in _GOOD and (failure is None or isinstance(failure, ReaderGone)):
+            if status == _GOOD and (failure is None or isinstance(failure, ReaderGone)):
                 new.finish(self._known)
-            if failure is not None and status in (*_GOOD, Status.READER_GONE):
+            if failure is not None and status in (_GOOD, Status.READER_GONE):
                 raise failure
             return status
         finally:
@@ -149,7 +128,7 @@ class _Run:
         return replace(output, content=units[output.unit].content)
 
 
-def _said(order: Order, source: WholeScript, status: int) -> int:
+def said(order: Order, source: WholeScript, status: int) -> int:
     """Says what the program has left to be said. Returns the exit status of the command."""
     if status == Status.REFUSED:
         findings = source.findings(load_images(name_of(order.script), order.loads))

@@ -77,7 +77,7 @@ def _started(
         stderr=stderr,
         pass_fds=files,
         restore_signals=False,
-        preexec_fn=lambda: _begin(parent, mask),
+        preexec_fn=lambda: begin_child(parent, mask),
     )
 
 
@@ -111,7 +111,7 @@ def _waker() -> Callable[[], None]:
     return lambda: signal.pthread_kill(waiting, signal.SIGCHLD)
 
 
-def _begin(parent: int, mask: AbstractSet[int]) -> None:
+def begin_child(parent: int, mask: AbstractSet[int]) -> None:
     """In the new process: it gets a signal when its parent ends, and takes signals again."""
     ctypes.CDLL(None).prctl(_PR_SET_PDEATHSIG, signal.SIGTERM)
     if os.getppid() != parent:

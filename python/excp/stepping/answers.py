@@ -17,7 +17,7 @@ from .past import Past
 _TO_THE_END = 65_535
 
 # What an event answers that changes nothing.
-_UNCHANGED = {Kind.QUIET, Kind.HELD, Kind.BUSY, Kind.IDLE, Kind.ROW_FULL}
+UNCHANGED = {Kind.QUIET, Kind.HELD, Kind.BUSY, Kind.IDLE, Kind.ROW_FULL}
 
 _MODES = {"quiesce": Mode.QUIESCE, "halt": Mode.HALT}
 
@@ -139,7 +139,7 @@ def _served(unit: Unit) -> Iterator[str]:
     is_told = False
     while True:
         before = [unit.take(), unit.start(), unit.run(_TO_THE_END), unit.interrupt()]
-        is_made = any(it.kind not in _UNCHANGED for it in before)
+        is_made = any(it.kind not in UNCHANGED for it in before)
         delivery = unit.deliver()
         if delivery.kind == Kind.DELIVERED:
             is_told = True
@@ -152,7 +152,7 @@ def _served(unit: Unit) -> Iterator[str]:
 
 def _repeat(event: Callable[[], Answer]) -> None:
     """Makes an event as often as it changes something."""
-    while event().kind not in _UNCHANGED:
+    while event().kind not in UNCHANGED:
         pass
 
 

@@ -19,15 +19,15 @@ from .chooser import Chooser
 from .mounted import Rooms, mounted_site
 from .past import Past
 
-# The most commands that a program does in one step (profile).
-_TURN = 64
+# The most commands that a program does in one step, unless said otherwise (profile).
+TURN = 64
 
 # The most requests that a unit holds.
 _MOST_HELD = 65_536
 
 _OF_ACTIVE = {Active.RUNNING: "run", Active.PENDING: "interrupt", Active.AWAITS_RESTART: "start"}
 
-_WAIT = "wait"
+WAIT = "wait"
 
 
 class Step(NamedTuple):
@@ -66,7 +66,7 @@ class Job:
     def _steps(self, text: Text, says: Command) -> Iterator[Step]:
         task = says.task
         if isinstance(says, Wait):
-            yield Step(_WAIT, says, f"# {text.line}", task)
+            yield Step(WAIT, says, f"# {text.line}", task)
         elif isinstance(says, PurgeTask):
             for unit in range(len(self.set_up.units)):
                 at = PurgeTaskAt(says.line, task, says.other, says.mode, unit)
@@ -94,7 +94,12 @@ class Schedule:
     """A run of a job by the schedule of a seed."""
 
     def __init__(
-        self, job: Job, seed: int, images: Mapping[int, bytes], keeps_lines: bool
+        self,
+        job: Job,
+        seed: int,
+        images: Mapping[int, bytes],
+        keeps_lines: bool,
+        turn: int = TURN,
     ) -> None:
         site = mounted_site(job.set_up, job.rooms(), images)
         past = Past(job.set_up.tasks, site.units, keeps_all=True)
@@ -103,7 +108,7 @@ class Schedule:
         tasks = range(job.set_up.tasks)
         self._lines = [job.set_up_text]
         self._done, self._awaited, self._delivered = ([0 for _ in tasks] for _ in range(3))
-        self._events = [_events_of(it.number) for it in site.units]
+        self._events = [_events_of(it.number, turn) for it in site.units]
         # the steps that each task and each unit can do now
         self._of_tasks = [self._steps_of_task(it) for it in tasks]
         self._of_units = [self._steps_of_unit(it) for it in site.units]
@@ -123,7 +128,7 @@ class Schedule:
         if self._keeps_lines:
             self._lines.append(f"{step.text}\n")
         says = step.says
-        task = self._counted(step, "" if step.verb == _WAIT else self._answer(step))
+        task = self._counted(step, "" if step.verb == WAIT else self._answer(step))
         if step.task is not None:
             self._note_wait(step.task)
         # after a step, its task and its unit may do something else
@@ -155,12 +160,12 @@ class Schedule:
     def _note_wait(self, task: int) -> None:
         """Notes that a task waits, if that is what it does next."""
         commands, done = self._job.commands[task], self._done[task]
-        if done < len(commands) and commands[done].verb == _WAIT:
+        if done < len(commands) and commands[done].verb == WAIT:
             self.stage.past.do(task, "waited")
 
     def _steps_of_task(self, task: int) -> Sequence[Step]:
         steps, commands, done = [], self._job.commands[task], self._done[task]
-        if done < len(commands) and (commands[done].verb != _WAIT or not self._awaited[task]):
+        if done < len(commands) and (commands[done].verb != WAIT or not self._awaited[task]):
             steps.append(commands[done])
         if self._delivered[task]:
             steps.append(Step("collect", Collect(0, task), f"collect {task}"))
@@ -183,9 +188,9 @@ def _verbs_of_active(found: UnitState) -> Sequence[str]:
     return ["start"] if found.waiting else []
 
 
-def _events_of(unit: int) -> Mapping[str, Step]:
+def _events_of(unit: int, turn: int) -> Mapping[str, Step]:
     """The events of a unit by their first words."""
     verbs = "take", "start", "interrupt", "deliver"
     events = {it: Step(it, StepOfUnit(0, unit), f"{it} {unit}") for it in verbs}
-    events["run"] = Step("run", Run(0, unit, _TURN), f"run {unit} {_TURN}")
+    events["run"] = Step("run", Run(0, unit, turn), f"run {unit} {turn}")
     return events

@@ -1,2 +1,0 @@
--- Lemmas on steps that are carried out.
-pub mod Carried

@@ -1,0 +1,210 @@
+"""Searches for the outcomes of a job, and prints them."""
+
+from __future__ import annotations
+
+import contextlib
+import os
+import tempfile
+import time
+from dataclasses import dataclass
+from typing import IO, Iterator, List, Optional, Sequence
+
+from ..checking.loaded import with_sizes
+from ..files.folder import ScenarioFolder
+from ..files.refusals import Unwritten
+from ..outcomes.bench import Bench
+from ..outcomes.job import NumberedJob
+from ..outcomes.running import running
+from ..outcomes.scenarios import scenario_of
+from ..outcomes.search import Found, Search, SearchEnded
+from ..outcomes.summary import Verdict, told_verdict, verdict_of
+from ..outcomes.tally import Tally, shares
+from ..outcomes.telling import Asked, Keeper, Teller
+from ..programs.telling import note
+from .handing import handed, name_in_texts
+from .seeded import is_rejected
+from .site_files import SiteFiles, site_files
+from .streams import FAILED, REJECTED, Ended, of_file, say_removed, write_at_once
+from .tool_run import said
+from .tools import PROGRAM, Order
+from .whole_script import WholeScript
+
+
+@dataclass(frozen=True)
+class Wanted:
+    """What is asked of the outcomes, as its options say it."""
+
+    turn: int
+    most_seconds: Optional[int]
+    seeds: int
+    often: Optional[int]
+    has_wholes: bool
+    tells_all: bool
+    outcome: Optional[Sequence[int]]
+    allow: Optional[Sequence[str]]
+
+
+def carry_out(order: Order, source: WholeScript, wanted: Wanted) -> int:
+    """Prints the outcomes of a job. Returns the exit status. Raises Ended, NotBuilt and
+    ReaderGone."""
+    with site_files(order, source.units) as files:
+        if wanted.often is not None:
+            return _often(order, source, files, wanted, wanted.often)
+        try:
+            with _search(order, files) as search:
+                return _Run(order, source, files, wanted, search).status()
+        except SearchEnded as ended:
+            return said(order, source, ended.status)
+        except OSError as error:
+            raise Ended(f"{PROGRAM} cannot be run: {error.strerror}") from None
+
+
+def _bench(source: WholeScript, files: SiteFiles) -> Bench:
+    text = with_sizes(source.script.script, files.measured())
+    return Bench(NumberedJob(text), files.contents())
+
+
+def _often(
+    order: Order, source: WholeScript, files: SiteFiles, wanted: Wanted, often: int
+) -> int:
+    """Prints how often runs by seeds come to each outcome."""
+    if is_rejected(order, source, files.measured()):
+        return REJECTED
+    bench = _bench(source, files)
+    tally = Tally(bench.job)
+    tally.run_seeds(bench, often, wanted.turn, lambda: True)
+    _print("".join(shares(tally, often)))
+    return Verdict.SEVERAL if tally.has_several() else Verdict.DETERMINISTIC
+
+
+@contextlib.contextmanager
+def _search(order: Order, files: SiteFiles) -> Iterator[Search]:
+    """The search of an order, which has the files of its images."""
+    with contextlib.ExitStack() as stack:
+        words: List[str] = [str(order.program_of(PROGRAM)), *order.words]
+        numbers: List[int] = []
+        for unit, file in files.opened().items():
+            numbers.append(handed(file.fileno()))
+            stack.callback(os.close, numbers[-1])
+            words.append(f"load={unit}={numbers[-1]}={name_in_texts(order.loads[unit])}")
+        yield stack.enter_context(running(words, numbers))
+
+
+class _Run:
+    """A search, and what is printed of it."""
+
+    def __init__(
+        self, order: Order, source: WholeScript, files: SiteFiles, wanted: Wanted, search: Search
+    ) -> None:
+        self._order, self._source, self._files = order, source, files
+        self._wanted, self._search = wanted, search
+        self._begun = time.monotonic()
+
+    def _has_time(self) -> bool:
+        """Whether there is time left. The printing may take as long as the search."""
+        most = self._wanted.most_seconds
+        return most is None or int(time.monotonic() - self._begun) < 2 * most
+
+    def status(self) -> int:
+        """Searches, prints, and returns the exit status."""
+        with _scenario_folder(self._order) as keeper:
+            found = self._search.of_job(self._source.script.script)
+            bench = _bench(self._source, self._files)
+            if self._wanted.outcome is not None:
+                return self._print_one(found, bench, self._wanted.outcome)
+            return self._print_all(found, bench, keeper)
+
+    def _print_one(self, found: Found, bench: Bench, outcome: Sequence[int]) -> int:
+        """Prints the scenario of one outcome."""
+        if not found.is_complete:
+            note("the search ended early: in a longer one this outcome may have another number")
+        scenario = self._scenario(found, bench, outcome)
+        if scenario is None:
+            task, unit, request, number = outcome
+            which = f"outcome {number} of request {request} of task {task} to unit {unit}"
+            note(f"no {which} was found")
+            return REJECTED
+        write_at_once(scenario)
+        return 0 if found.is_complete else Verdict.NOT_ALL
+
+    def _scenario(self, found: Found, bench: Bench, outcome: Sequence[int]) -> Optional[bytes]:
+        *name, number = outcome
+        request = bench.job.by_name.get(" ".join(map(str, name)))
+        outcomes = [] if request is None else found.outcomes[request.place]
+        if request is None or not 1 <= number <= len(outcomes):
+            return None
+        steps = self._search.steps_to(request.place, outcomes[number - 1])
+        if steps is None:
+            return None
+        witness = bench.witness(steps, request, outcomes[number - 1])
+        return None if witness is None else scenario_of(bench.job, witness)
+
+    def _print_all(self, found: Found, bench: Bench, keeper: Optional[Keeper]) -> int:
+        wanted, job, tally = self._wanted, bench.job, Tally(bench.job)
+        seeds = wanted.seeds if found.is_complete else 0
+        tally.run_seeds(bench, seeds, wanted.turn, self._has_time)
+        missed = tally.missed(found)
+        run = self._search.steps_of_run()
+        whole = None if run is None else bench.whole(run)
+        tally.add([] if whole is None else whole.posts)
+        asked = Asked(wanted.tells_all, keeper)
+        teller = Teller(self._search, found, bench, tally, asked, self._has_time, _print)
+        teller.tell_all()
+        teller.tell_outputs()
+        verdict = verdict_of(found, teller.has_lost, teller.is_cut)
+        _print(told_verdict(found, verdict, teller.is_cut, wanted.turn, wanted.has_wholes))
+        if missed is None:
+            return verdict if wanted.allow is None else _judged(found, job, verdict, wanted.allow)
+        seed, request = missed
+        which = f"request {request.number} of task {request.task} to unit {request.unit}"
+        again = f"the run by seed {seed} posts another outcome of {which}"
+        note(f"error of this program: {again}; please report it with the script")
+        return FAILED
+
+
+def _judged(found: Found, job: NumberedJob, verdict: int, allow: Sequence[str]) -> int:
+    """The exit status if outcomes with these codes are no error: the first one with another code is
+    named. If not all were found, more may come."""
+    for request in job.in_order:
+        for number, outcome in enumerate(found.outcomes[request.place], 1):
+            if outcome.code not in allow:
+                which = f"outcome {number} of request {request.number} of task {request.task}"
+                note(f"{which} to unit {request.unit} has code {outcome.code}: line {request.line}")
+                return Verdict.SEVERAL
+    return verdict if verdict == Verdict.NOT_ALL else Verdict.DETERMINISTIC
+
+
+def _print(text: str) -> None:
+    write_at_once(text.encode("latin-1"))
+
+
+class _Scenarios:
+    """A file of scenarios, each after a line `NAME BYTES`."""
+
+    def __init__(self, file: IO[bytes]) -> None:
+        self._file = file
+
+    def keep(self, name: str, scenario: bytes) -> None:
+        self._file.write(f"{name} {len(scenario)}\n".encode() + scenario)
+
+
+@contextlib.contextmanager
+def _scenario_folder(order: Order) -> Iterator[Optional[Keeper]]:
+    """What takes scenarios, if they are wanted. They go into their folder once all are found.
+    Raises Ended."""
+    if order.folder is None:
+        yield None
+        return
+    folder = ScenarioFolder(order.folder, order.targets())
+    try:
+        for removed in folder.prepare():
+            say_removed(*removed)
+        with tempfile.TemporaryFile() as file:
+            yield _Scenarios(file)
+            file.seek(0)
+            for removed in folder.write_all(file):
+                say_removed(*removed)
+    except Unwritten as error:
+        raise of_file(error.name, error.sentence) from None
+    finally:
+        folder.remove_new()

@@ -1,0 +1,213 @@
+"""Steps that are carried out from the beginning of a job, each time on a site of its own."""
+
+from __future__ import annotations
+
+from dataclasses import dataclass
+from typing import Any, Callable, Iterable, List, Mapping, Optional, Sequence, Tuple
+
+from ..script.grammar import Excp
+from ..stepping.answers import UNCHANGED, Stage
+from ..stepping.mounted import mounted_site
+from ..stepping.past import Past
+from ..stepping.schedule import WAIT
+from .job import NumberedJob, Request
+from .search import Outcome
+
+# How many steps are left out at a time, in turn; and how much work it takes at most to make a
+# witness short, in steps and commands.
+_SIZES = 8, 4, 2, 1
+_MOST_WORK = 100_000
+
+# What a command of a task answers that cannot be made.
+_NOT_MADE = "Full", "NoNumber", "NoSuchDcb"
+
+# The step of a task that does its next command, and that of one that collects.
+TASK, COLLECT = "task", "collect"
+
+
+@dataclass(frozen=True)
+class Witness:
+    """Steps that were made, and the lines of the posts that they collected; the last is that of the
+    request, if they lead to one."""
+
+    steps: Sequence[str]
+    posts: Sequence[str]
+
+
+class Bench:
+    """A job before its first step."""
+
+    def __init__(self, job: NumberedJob, images: Mapping[int, bytes]) -> None:
+        self.job, self.images = job, images
+        self._rooms = job.steps.rooms()
+
+    def stage(self) -> Stage:
+        """A new site of the job."""
+        set_up = self.job.steps.set_up
+        site = mounted_site(set_up, self._rooms, self.images)
+        return Stage(site, set_up, Past(set_up.tasks, site.units, keeps_all=False))
+
+    def witness(
+        self, steps: Sequence[str], request: Request, outcome: Outcome
+    ) -> Optional[Witness]:
+        """What steps lead to, made short, if it is this outcome of a request."""
+        best, _ = self.carry_out(steps, request, outcome)
+        left = _MOST_WORK
+        for size in _SIZES:
+            if best is None:
+                return None
+            kept = _own(best.steps)
+            at = len(kept)
+            while at and left > 0:
+                at = max(0, at - size)
+                fewer = [*kept[:at], *kept[at + size :]]
+                shorter, work = self.carry_out(fewer, request, outcome)
+                left -= work
+                if shorter is not None:
+                    best, kept = shorter, fewer
+        return best
+
+    def carry_out(
+        self, steps: Sequence[str], request: Request, outcome: Outcome
+    ) -> Tuple[Optional[Witness], int]:
+        """Carries steps out up to the post of a request. Before a wait that cannot go on yet, posts
+        are delivered and collected, and so is that post at the end. Gives what they lead to, if it
+        is this outcome, and how much work that took."""
+        with _Rerun(self, request.name) as run:
+            run.all(steps)
+            is_it = run.has_target and run.posts[-1].split(" ", 4)[4] == outcome.text
+            return (run.witness() if is_it else None), run.work()
+
+    def whole(self, steps: Sequence[str]) -> Optional[Witness]:
+        """What steps lead to, up to the posts of all requests, if all comes to its end."""
+        with _Rerun(self, None) as run:
+            is_over = run.all(steps) and run.is_over()
+            return run.witness() if is_over else None
+
+
+class _Reached(Exception):
+    """The post of the target was collected."""
+
+
+class _Rerun:
+    """A run in the making: the steps that were made, and the lines of the posts, in order."""
+
+    def __init__(self, bench: Bench, target: Optional[str]) -> None:
+        self._job, self._target = bench.job, target
+        self._stage = bench.stage()
+        self.steps: List[str] = []
+        self.posts: List[str] = []
+        self.has_target = False
+        tasks = len(bench.job.tasks)
+        self._done, self._awaited, self._commands = [0] * tasks, [0] * tasks, 0
+
+    def __enter__(self) -> _Rerun:
+        return self
+
+    def __exit__(self, *_: Any) -> None:
+        self._stage.site.close()
+
+    def witness(self) -> Witness:
+        return Witness(self.steps, self.posts)
+
+    def all(self, steps: Iterable[str]) -> bool:
+        """Makes steps, and then delivers and collects: up to the post of the target, or all posts.
+        Returns whether each step could be made."""
+        try:
+            if not all(map(self._make, steps)):
+                return False
+            self._collect_all() if self._target is None else self._collect_target(self._target)
+        except _Reached:
+            self.has_target = True
+        return True
+
+    def is_over(self) -> bool:
+        """Whether each task has done all and collected all, and nothing is left at a unit."""
+        tasks, units = self._job.tasks, self._stage.site.units
+        is_done = all(len(it) == done for it, done in zip(tasks, self._done))
+        return is_done and not any(self._awaited) and all(it.is_drained for it in units)
+
+    def work(self) -> int:
+        """How many steps were made, and how many commands ran."""
+        return self._commands + len(self.steps)
+
+    def _make(self, step: str) -> bool:
+        """Makes a step. A wait is made once its task has collected its posts."""
+        if self._once(step):
+            return True
+        if self._is_wait(step):
+            self._collect_all()
+            return self._once(step)
+        return False
+
+    def _once(self, step: str) -> bool:
+        """Makes a step if it can be made now."""
+        verb, number, *rest = step.split()
+        make: Callable[..., bool] = _MAKERS.get(verb, _Rerun._of_unit)
+        is_made = make(self, verb, int(number), *map(int, rest))
+        if is_made:
+            self.steps.append(step)
+            if verb == COLLECT and self._is_target(self.posts[-1]):
+                raise _Reached
+        return is_made
+
+    def _is_target(self, post: str) -> bool:
+        return self._target is not None and post.startswith(f"post {self._target} ")
+
+    def _is_wait(self, step: str) -> bool:
+        verb, number = step.split()[:2]
+        if verb != TASK:
+            return False
+        commands, done = self._job.tasks[int(number)], self._done[int(number)]
+        return done < len(commands) and commands[done].verb == WAIT
+
+    def _of_unit(self, verb: str, number: int, *most: int) -> bool:
+        answer = getattr(self._stage.site.units[number], verb)(*most)
+        self._commands += answer.commands
+        return answer.kind not in UNCHANGED
+
+    def _of_task(self, _: str, task: int) -> bool:
+        """Does the next command of a task. Of a DCB that is closed a reset is passed over."""
+        commands, done = self._job.tasks[task], self._done[task]
+        if done == len(commands):
+            return False
+        step = commands[done]
+        if step.verb == WAIT:
+            is_made = not self._awaited[task]
+        else:
+            answer = self._stage.answer(step.verb, step.says)[0]
+            is_made = answer not in _NOT_MADE or step.verb == "reset"
+        self._done[task] += is_made
+        self._awaited[task] += is_made and isinstance(step.says, Excp)
+        return is_made
+
+    def _collect(self, _: str, task: int) -> bool:
+        post = self._stage.site.next_post(task)
+        if post is None:
+            return False
+        self._awaited[task] -= 1
+        self.posts.append(self._stage.past.leave(post))
+        return True
+
+    def _collect_all(self) -> None:
+        for unit in range(len(self._stage.site.units)):
+            self._repeat(f"deliver {unit}")
+        for task in range(len(self._job.tasks)):
+            self._repeat(f"{COLLECT} {task}")
+
+    def _collect_target(self, name: str) -> None:
+        task, unit, _ = name.split()
+        self._repeat(f"deliver {unit}")
+        self._repeat(f"{COLLECT} {task}")
+
+    def _repeat(self, step: str) -> None:
+        while self._once(step):
+            pass
+
+
+_MAKERS: Mapping[str, Callable[..., bool]] = {TASK: _Rerun._of_task, COLLECT: _Rerun._collect}
+
+
+def _own(steps: Sequence[str]) -> List[str]:
+    """Steps without deliveries and collections, which are made again where they are wanted."""
+    return [it for it in steps if not it.startswith(("deliver", COLLECT))]

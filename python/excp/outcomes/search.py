@@ -1,0 +1,139 @@
+"""The search of a job, which the program excp_tools carries out: what it finds, and the steps that
+lead there. Its questions and answers are in crates/excp_tools/src/outcomes.rt and answers.rt."""
+
+from __future__ import annotations
+
+import json
+import subprocess
+from dataclasses import dataclass
+from typing import IO, Any, Iterator, List, Mapping, Optional, Sequence
+
+WHOLE, STATES, MEMORY, WATCH = "whole", "states", "memory", "watch"
+
+
+@dataclass(frozen=True)
+class Outcome:
+    """An outcome of a request: its place among those that were found, what its post says after its
+    name, and how many steps lead to it, about."""
+
+    place: int
+    text: str
+    length: int
+
+    @property
+    def code(self) -> str:
+        """The completion code."""
+        return self.text[:2]
+
+
+@dataclass(frozen=True)
+class Found:
+    """What a search found: why it ended, how many states, about how many bytes they take, the
+    outcomes of each request in the order of their texts, and the whole outputs, each with a text
+    for each request."""
+
+    ended: str
+    states: int
+    bytes: int
+    outcomes: Sequence[Sequence[Outcome]]
+    wholes: Sequence[Sequence[str]]
+
+    @property
+    def is_complete(self) -> bool:
+        return self.ended == WHOLE
+
+
+class SearchEnded(Exception):
+    """The program has ended, with this exit status."""
+
+    def __init__(self, status: int) -> None:
+        super().__init__(status)
+        self.status = status
+
+
+class Search:
+    """A search. Each method raises SearchEnded if the program ends."""
+
+    def __init__(self, child: subprocess.Popen[bytes]) -> None:
+        assert child.stdin is not None and child.stdout is not None
+        self._child = child
+        self._questions: IO[bytes] = child.stdin
+        self._answers: IO[bytes] = child.stdout
+
+    def of_job(self, text: bytes) -> Found:
+        """Searches the job whose text this is. It comes first."""
+        return _found(self._answer(f"job {len(text)}", text))
+
+    def of_changed(self, text: bytes, most_states: int) -> Found:
+        """Searches a changed job, up to so many states."""
+        return _found(self._answer(f"try {most_states} {len(text)}", text))
+
+    def steps_to(self, request: int, outcome: Outcome) -> Optional[Sequence[str]]:
+        """The steps that lead to an outcome of a request."""
+        return self._steps(f"steps {request} {outcome.place}")
+
+    def steps_to_whole(self, place: int) -> Optional[Sequence[str]]:
+        """The steps that lead to a whole output."""
+        return self._steps(f"whole {place}")
+
+    def steps_of_run(self) -> Optional[Sequence[str]]:
+        """The steps of a whole run, if one was found."""
+        return self._steps("run")
+
+    def _steps(self, question: str) -> Optional[Sequence[str]]:
+        steps: Optional[Sequence[str]] = next(self._answer(question))["steps"]
+        return steps
+
+    def _answer(self, question: str, text: bytes = b"") -> Iterator[Mapping[str, Any]]:
+        """The lines of an answer."""
+        try:
+            self._questions.write(f"{question}\n".encode() + text)
+            self._questions.flush()
+        except BrokenPipeError:
+            raise self._ended() from None
+        return self._lines()
+
+    def _lines(self) -> Iterator[Mapping[str, Any]]:
+        while True:
+            line = self._answers.readline()
+            if not line:
+                raise self._ended()
+            members = json.loads(line)
+            yield members
+            if members.get("last"):
+                return
+
+    def _ended(self) -> SearchEnded:
+        status = self._child.wait()
+        return SearchEnded(status if status >= 0 else 128 - status)
+
+    def end(self) -> None:
+        """Ends the program, if it has not ended."""
+        self._child.kill()
+        self._child.communicate()
+
+
+def _found(lines: Iterator[Mapping[str, Any]]) -> Found:
+    head = next(lines)
+    texts: dict[int, str] = {}
+    outcomes: List[Sequence[Outcome]] = []
+    wholes: List[Sequence[str]] = []
+    for line in lines:
+        if "outcomes" in line:
+            for number, key, _ in line["outcomes"]:
+                texts[number] = _text(key)
+            of_request = [
+                Outcome(place, texts[number], length)
+                for place, (number, _, length) in enumerate(line["outcomes"])
+            ]
+            outcomes.append(sorted(of_request, key=lambda it: it.text))
+        elif "whole" in line:
+            wholes.append([texts[number] for number in line["whole"]])
+    return Found(head["ended"], head["states"], head["bytes"], outcomes, wholes)
+
+
+def _text(key: str) -> str:
+    """What a post says after its name: the code, the CSW without its first byte, the sense, and the
+    bytes shown."""
+    fields = key[:2], key[4:10], key[10:14], key[14:18], key[18:22], key[22:] or "-"
+    return " ".join(fields)
