@@ -1,7 +1,7 @@
 """Builds the wheel with the standard library alone, so that pip needs no network (PEP 517 and PEP 660).
 
-The wheel has the command `excp`, whose pages of help and whose viewer are files of the package. It has libexcp.so if EXCP_LIBRARY names it, or if it is
-beside the package or in out/library of the repository.
+The wheel has the command `excp`, whose pages of help and whose viewer are files of the package. It has libexcp.so if EXCP_LIBRARY
+names it, or if it is beside the package or in out/library of the repository.
 """
 
 import base64

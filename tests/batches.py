@@ -1,11 +1,11 @@
 """Mutants of a crate that one check tries side by side, each in the body of another function.
 
-The proof of a function reads its own body, and of each other function only the contract. So a complaint at a place inside a function
-is about the mutant of that function, whatever else is changed. A batch has at most one mutant of a function, and no two functions of
-which one names the other. A mutant with a change outside a body has no place in a batch.
+The proof of a function reads its own body, and of each other function only the contract. So a complaint at a place inside a
+function is about the mutant of that function, whatever else is changed. A batch has at most one mutant of a function, and no two
+functions of which one names the other. A mutant with a change outside a body has no place in a batch.
 
-A batch counts for nothing if the check does not end as one that refuses proofs, if it complains at a place in none of the functions,
-or if it refuses something because another thing was refused.
+A batch counts for nothing if the check does not end as one that refuses proofs, if it complains at a place in none of the
+functions, or if it refuses something because another thing was refused.
 """
 
 import os

@@ -15,8 +15,10 @@ CHANGES = """(() => {
   for (const it of document.querySelectorAll('section.unit')) it.build();
   const marks = (cell) => cell.querySelector('.dim')?.textContent === 'none' ? 'none'
     : [...cell.querySelectorAll('mark')].map(it => it.textContent).join('');
-  const changed = [...document.querySelectorAll('.change')].map(it => [it.dataset.change, ...[1, 2].map(nth => marks(it.children[nth]))]);
-  const units = [...document.querySelectorAll('section.unit')].filter(it => [...it.querySelectorAll('h4')].some(it => it.textContent === 'Before the run'));
+  const change = it => [it.dataset.change, ...[1, 2].map(nth => marks(it.children[nth]))];
+const changed = [...document.querySelectorAll('.change')].map(change);
+  const isBefore = it => it.textContent === 'Before the run';
+const units = [...document.querySelectorAll('section.unit')].filter(it => [...it.querySelectorAll('h4')].some(isBefore));
   return [changed, units.map(it => it.id), [...document.querySelectorAll('.changed')].map(it => it.id)];
 })()"""
 

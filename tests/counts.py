@@ -134,7 +134,8 @@ def found(memory, kind, field, vec, fits):
 
 
 def locks_of(memory, units, count):
-    """The state of the lock of each unit. The locks are in a list that begins less than STATE before the first unit's end of its row."""
+    """The state of the lock of each unit. The locks are in a list that begins less than STATE before the first unit's end of its
+    row."""
     first = units[0][0] if units else 0
     lists = (memory.read(Vec, place) for place, _ in memory.places(range(first - STATE, first, 8)))
     at = max((it.at for it in lists if it.len == it.capacity == count), default=first)
@@ -160,7 +161,8 @@ def units_told(memory, rows):
         line = f"unit {number}: sent to it {total(memory, row, SENT)}, taken {taken}"
         if units:
             it = units[number][1]
-            waiting, active, out, delivered = it.book.waiting.size, it.book.active.is_some, it.book.out.size, sum(sent(memory, it.back))
+            waiting, active, out = it.book.waiting.size, it.book.active.is_some, it.book.out.size
+            delivered = sum(sent(memory, it.back))
             line += f", waiting {waiting}, active {active}, posted and not delivered {out}, delivered {delivered}"
             line += "" if taken == waiting + active + out + delivered else " (a call moves one)"
             line += f", notices {it.notice.count}, owed {it.owes}, lock {locks[number]}"

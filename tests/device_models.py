@@ -1,7 +1,7 @@
 """What a disk without keys and a tape do with some commands: docs/SPECIFICATION.md, written again in Python.
 
-A device changes in place. It knows bytes and no storage: a command gets the bytes that its program gives, and answers with those that
-the program is to get.
+A device changes in place. It knows bytes and no storage: a command gets the bytes that its program gives, and answers with those
+that the program is to get.
 """
 
 from dataclasses import dataclass, field

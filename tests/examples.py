@@ -16,8 +16,8 @@ JOBS = ["docs/MANUAL.md"]
 # A line that is a command.
 COMMAND = re.compile(r"(?:\$ )?(?:\./|tests/|tools/|cd |rt |job=)")
 
-# ./excp of a folder in which commands run: it runs the programs that are tested, on a file or with a subcommand, and the package. The
-# job whose outcomes the pages show has several, of which the status tells.
+# ./excp of a folder in which commands run: it runs the programs that are tested, on a file or with a subcommand, and the package.
+# The job whose outcomes the pages show has several, of which the status tells.
 EXCP = """#!/usr/bin/env bash
 set -o pipefail
 case "$1" in
@@ -97,8 +97,8 @@ AMONG = "the lines of the next block, among others"
 NOTHING = "nothing"
 ANYTHING = "anything"
 
-# Blocks of commands by their page and first command: what they print, and the files that they read, each the first block of the page
-# with a line, or a file of the repository.
+# Blocks of commands by their page and first command: what they print, and the files that they read, each the first block of the
+# page with a line, or a file of the repository.
 RUN = {
     ("README.md", "./excp samples/read.script"): (NEXT, {}),
     ("README.md", "./excp report --posts - <<'END'"): (NEXT, {}),
@@ -111,7 +111,8 @@ RUN = {
     ("samples/README.md", "./excp assemble samples/read.symbolic > /tmp/read.script"): (ANYTHING, {}),
     ("docs/MANUAL.md", "./excp step halt"): (NEXT, {"halt": "purge 0 0 1 halt"}),
     ("docs/MANUAL.md", "job=samples/outcomes/a-halt.symbolic"): (NEXT, {}),
-    ("docs/MANUAL.md", "./excp debug errors <<'END'"): (AMONG, {"errors": "ID:     CCHHR 0,0,9                ; cylinder 0, head 0, record 9"}),
+    ("docs/MANUAL.md",
+     "./excp debug errors <<'END'"): (AMONG, {"errors": "ID:     CCHHR 0,0,9                ; cylinder 0, head 0, record 9"}),
     ("docs/MANUAL.md", "./excp job"): (ANYTHING, {"job": "LINE: DC  C'HELLO'"}),
     ("docs/MANUAL.md", "./excp report first | awk"): (NOTHING, {"first": "samples/read.symbolic", "rest": "samples/read.script"}),
     ("docs/MANUAL.md", "./excp report --json first"): (ANYTHING, {"first": "samples/read.symbolic"}),
@@ -135,7 +136,8 @@ NOT_RUN = {
     ("docs/CLIENT.md", "cd crates/print_tape && rt run"): "`rt ci` proves the program and runs it",
     ("docs/CLIENT.md", "tools/library.py"): "the group library_clients builds and runs the examples",
     ("docs/MANUAL.md", "./excp describe tape.aws disk.ckd"): "it needs images; the group images runs such commands",
-    ("samples/README.md", "./excp step --html samples/scenarios/a-related-error.scenario"): "it needs Chromium; the group pages opens pages",
+    ("samples/README.md",
+     "./excp step --html samples/scenarios/a-related-error.scenario"): "it needs Chromium; the group pages opens pages",
     ("docs/SPEED.md", "cd crates/excp_speed && rt run -- 2000"): "it proves the program and takes minutes",
 }
 

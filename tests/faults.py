@@ -50,7 +50,8 @@ def place_of(line, name, words):
 
 
 def due(findings, script):
-    """What a run is to report, by the faults that `check` found, each a line, if it has one, and a name. Nothing if it is to run."""
+    """What a run is to report, by the faults that `check` found, each a line, if it has one, and a name. Nothing if it is to
+    run."""
     if not findings:
         return ""
     words = words_of(script)
@@ -68,7 +69,8 @@ SIGNS = {
 }
 
 # A finding in a job with symbols.
-PLACED = re.compile(rf"<stdin>(?::([0-9]+)(?::[0-9]+)?)?: (note|{'|'.join([*OF_LINES, *OF_SCRIPTS])}): .+?(?: \(excp in line ([0-9]+)\))?\n")
+PLACED = re.compile(rf"<stdin>(?::([0-9]+)(?::[0-9]+)?)?: (note|{'|'.join([*OF_LINES, *OF_SCRIPTS])}): .+?"
+                    r"(?: \(excp in line ([0-9]+)\))?\n")
 
 
 def has_symbols(script):

@@ -85,7 +85,8 @@ class Ran:
 
 @dataclass
 class Setup:
-    """What a run of the tests is given: the program excp_job, whether the long form is wanted, and how many runs go side by side."""
+    """What a run of the tests is given: the program excp_job, whether the long form is wanted, and how many runs go side by
+    side."""
 
     program: str
     is_long: bool = False
@@ -137,7 +138,8 @@ def run(words, script="", file="", **how):
 
 
 def package_main(job, tools):
-    """What carries out words of the package with these programs, whose modules this process imports once, before it has children."""
+    """What carries out words of the package with these programs, whose modules this process imports once, before it has
+    children."""
     from excp.command.main import main
     from excp.command.words import WORDS
 

@@ -1,5 +1,6 @@
 #!/usr/bin/env python3
-"""Runs a word of the package python/excp with this program excp_tools and the library in out/library, from any folder and with any environment:
+"""Runs a word of the package python/excp with this program excp_tools and the library in out/library, from any folder and with any
+environment:
 
     tests/package.py PROGRAM WORD ..
 

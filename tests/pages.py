@@ -60,8 +60,8 @@ class Page(HTMLParser):
         return {**json.loads(self.texts["front"]), **json.loads(self.texts["rest"])}
 
     def facts(self):
-        """The run, and what a page alone has: as `job` what the script says, and as `further_r0` of each medium the tracks whose first
-        record in the JSON is a further record 0."""
+        """The run, and what a page alone has: as `job` what the script says, and as `further_r0` of each medium the tracks whose
+        first record in the JSON is a further record 0."""
         facts = {**self.members(), "job": json.loads(self.texts["job"])}
         for unit, tracks in zip(facts["units"], facts["further_r0"], strict=True):
             unit["medium"]["further_r0"] = tracks
@@ -92,7 +92,8 @@ def check(text):
                 f"<{tag}> has {named}")
     require("<" not in page.texts["front"] + page.texts["rest"] + page.texts["job"] + page.texts["states"], "the JSON has a <")
     for words in page.texts["style"], page.texts["script"]:
-        require(not re.search(r"https?:(?!//www\.w3\.org/2000/svg\b)|@import|\binnerHTML\b|\beval\b|url\((?!#)", words), "the page names a place")
+        require(not re.search(r"https?:(?!//www\.w3\.org/2000/svg\b)|@import|\binnerHTML\b|\beval\b|url\((?!#)", words),
+                "the page names a place")
     return page
 
 
@@ -127,8 +128,10 @@ def lanes_of(run):
         kinds = [event["what"] for event in events]
         counts["collects"][f"task{task}"] = kinds.count("collected")
         # a wait after which nothing is collected has no length
-        counts["waits"][f"task{task}"] = len(re.findall("w(?=c)", "".join(kind[0] if kind != "controlled" else "x" for kind in kinds)))
-    return {**{what: {lane: count[lane] for lane in lanes} for what, count in counts.items()}, "dooms": sorted(dooms), "codes": dict(codes)}
+        counts["waits"][f"task{task}"] = len(re.findall("w(?=c)",
+                                                        "".join(kind[0] if kind != "controlled" else "x" for kind in kinds)))
+    return {**{what: {lane: count[lane] for lane in lanes} for what, count in counts.items()}, "dooms": sorted(dooms),
+            "codes": dict(codes)}
 
 
 def strips_of(unit):
@@ -150,7 +153,8 @@ def strips_of(unit):
 
 
 def numbers_of(run):
-    """The number that the page has for each event, by its unit and entry: its place on the axis, or nothing if it is of the set-up."""
+    """The number that the page has for each event, by its unit and entry: its place on the axis, or nothing if it is of the
+    set-up."""
     places = {(unit["unit"], it["entry"]): it.get("column", it.get("at")) for unit in run["units"] for it in unit["events"]}
     numbers = {event: f"{number:,}" for number, event in enumerate(sorted(filter(places.get, places), key=places.get), 1)}
     return collections.defaultdict(str, numbers)
@@ -170,7 +174,8 @@ def requests_of(run):
         for (task, number), events in of.items():
             end = next((event for event in events if event["what"] == "posted"), None)
             by = entries.get(end["doomed_by"]) if end else None
-            cause = by and (f"q{by['task']}-{unit['unit']}-{by['request']}" if by["what"] == "posted" else f"m{unit['unit']}-{by['entry']}")
+            cause = by and (f"q{by['task']}-{unit['unit']}-{by['request']}" if by["what"] == "posted"
+                            else f"m{unit['unit']}-{by['entry']}")
             yield f"q{task}-{unit['unit']}-{number}", unit, events, end, collected.get((task, unit["unit"], number)), cause
 
 
@@ -287,7 +292,8 @@ def shown_steps(run, events):
         elif event["what"] == "started" and attempt:
             steps = [step for number in attempt for step in run["steps"][number]]
             key = re.sub(r'"fault": \d+', '"fault": 1', json.dumps(steps))
-            is_joined = len(attempt) > 1 and any("loop" in run["steps"][number][0] for number in attempt[1:] if run["steps"][number])
+            is_joined = len(attempt) > 1 and any("loop" in run["steps"][number][0] for number in attempt[1:]
+                                                 if run["steps"][number])
             if key != last and not is_joined and len(steps) <= FIRST_STEPS:
                 yield steps
             last, attempt = key, []
@@ -327,7 +333,9 @@ def place_on(unit, step, place):
     where = place["cylinder"], place["head"]
     track = [it for it in medium["records"] if (it["cylinder"], it["head"]) == where]
     first = 0 if has_r0(medium, where, track) else 1
-    record = next(iter(track[place["nth"] - first :]), None) if place["nth"] >= first else {"record": 0, "key": "", "data": "00" * 8}
-    if not record or any(record.get(what, other) != place.get(what, other) for what, other in (("record", 0), ("id", None), ("key", ""))):
+    record = next(iter(track[place["nth"] - first :]), None) if place["nth"] >= first else {"record": 0, "key": "",
+                                                                                            "data": "00" * 8}
+    if not record or any(record.get(what, other) != place.get(what, other)
+                         for what, other in (("record", 0), ("id", None), ("key", ""))):
         return {}
     return {f"r{number}-{where[0]}-{where[1]}-{place['nth']}": f"R{record['record']}, bytes"}

@@ -100,7 +100,8 @@ class Disk:
     def place(self, nth):
         (cylinder, head), (whole, key) = self.track, self.records[nth]
         is_own = whole[:4] == [*cylinder.to_bytes(2, "big"), *head.to_bytes(2, "big")]
-        found = {"cylinder": cylinder, "head": head, "record": whole[4], "nth": nth, **({} if is_own else {"id": hexadecimal(whole)})}
+        found = {"cylinder": cylinder, "head": head, "record": whole[4], "nth": nth,
+                 **({} if is_own else {"id": hexadecimal(whole)})}
         return {**found, "key": hexadecimal(key)} if key else found
 
     def passed(self, compared, what):
@@ -137,7 +138,8 @@ class Tape:
         require(is_check == (item is None), f"after {at} of {len(self.items)} items it ends with {command.status:04X}")
         if item is None or is_file or code in (0x01, 0x1F):
             return None if item is None else {"item": item + 1}
-        require(bool(command.status & UNIT_EXCEPTION) == self.items[item], f"item {item + 1} is {'a' if self.items[item] else 'no'} mark")
+        require(bool(command.status & UNIT_EXCEPTION) == self.items[item],
+                f"item {item + 1} is {'a' if self.items[item] else 'no'} mark")
         return {"item": item + 1}
 
 

@@ -1,5 +1,5 @@
-"""The lanes of commands of a page (docs/REPORT.md), and the panes of programs in its panels, against what an independent reader takes
-from the JSON alone."""
+"""The lanes of commands of a page (docs/REPORT.md), and the panes of programs in its panels, against what an independent reader
+takes from the JSON alone."""
 
 import collections
 import json

@@ -165,7 +165,8 @@ def check_columns(run):
     for unit in run["units"]:
         number, last, is_set_up = unit["unit"], 0, True
         for event in unit["events"]:
-            require(("at" in event, "column" in event) == (run["order"] == "run", run["order"] == "units"), f"no such order: {event}")
+            require(("at" in event, "column" in event) == (run["order"] == "run", run["order"] == "units"),
+                    f"no such order: {event}")
             if run["order"] == "run":
                 continue
             is_set_up = is_set_up and event["what"] == "opened"
@@ -197,7 +198,8 @@ def size_of(medium):
 
 
 def check_media(run):
-    """A medium is whole up to its bound. Of another one the tracks or items are there that steps name, as far as these are known."""
+    """A medium is whole up to its bound. Of another one the tracks or items are there that steps name, as far as these are
+    known."""
     for unit in run["units"]:
         medium, named = unit["medium"], []
         size = size_of(medium)
@@ -320,7 +322,8 @@ def check_parts(run):
                 require(event["by"] == by, f"unit {number}, entry {event['entry']} is by {event['by']}, and task {by} made it")
             if event["what"] == "ran" and "left_out" not in event:
                 steps = sum(len(step["loop"]) * step["times"] if "loop" in step else 1 for step in steps_of(run, event))
-                require(steps == event["commands"], f"unit {number}, entry {event['entry']}: {steps} of {event['commands']} commands")
+                require(steps == event["commands"],
+                        f"unit {number}, entry {event['entry']}: {steps} of {event['commands']} commands")
         require(entries == unit["entries"], f"unit {number} has {entries} of {unit['entries']} entries")
     require(seen == len(posts), f"{seen} of {len(posts)} posts are in the histories")
     require(not controls, f"no entry is of these controls: {controls}")
@@ -429,7 +432,8 @@ def told(event):
     if what == "started":
         return f"{request} started" + (f" again, attempt {event['attempt']}" if event["attempt"] > 1 else "")
     if what == "ran":
-        return f"{request} ran {count(event['commands'], 'command')}" + (f" in {event['turns']} turns" if event["turns"] > 1 else "")
+        return f"{request} ran {count(event['commands'], 'command')}" + (f" in {event['turns']} turns" if event["turns"] > 1
+                                                                         else "")
     if what == "halted":
         return f"{request} halted"
     if what == "purge":

@@ -113,7 +113,8 @@ def check_tasks(run, script, answers):
 
 def check_posts(run, answers):
     """The posts are those that were printed."""
-    due = sorted((answer for _, answer, _ in answers if answer.startswith("post ")), key=lambda it: [int(n) for n in it.split()[1:4]])
+    due = sorted((answer for _, answer, _ in answers if answer.startswith("post ")),
+                 key=lambda it: [int(n) for n in it.split()[1:4]])
     actual = reports.posts_of(run).splitlines()[:-1]
     require(actual == due, f"the posts are {actual}, and {due} were printed")
 

@@ -1,5 +1,5 @@
-"""Small jobs at random whose tasks race: requests to disks, tapes and printers, purges, closes, resets and waits. Some have a shape:
-commands of several tasks that make one another's posts differ, among others at random."""
+"""Small jobs at random whose tasks race: requests to disks, tapes and printers, purges, closes, resets and waits. Some have a
+shape: commands of several tasks that make one another's posts differ, among others at random."""
 
 import random
 
@@ -7,8 +7,8 @@ EXTENT = "18000000000000000000000000000001"
 
 FAULTS = "0E 00 1000", "0E 00 0800", "00 08 0000", "0E 00 8000", "00 04 0000"
 
-# What programs do, by the kind of a unit: up to six doublewords at 001030, where the data is at 001068 and a search argument at 001060.
-# The last one of a disk writes R1, and then restores it.
+# What programs do, by the kind of a unit: up to six doublewords at 001030, where the data is at 001068 and a search argument at
+# 001060. The last one of a disk writes R1, and then restores it.
 PROGRAMS = {
     "disk": (
         ("3100106040000005", "0800103000000000", "0600106800000002"),
@@ -126,9 +126,9 @@ class Maker:
                 self.excp(self.chance.randrange(self.tasks), unit, second, READS)]
 
     def doomed(self):
-        """A task closes a DCB after a request to another one. A second task waits for each of two requests to the closed DCB, purges the
-        other one, and reads. As it waits for the first, the second one arrives after the request that is purged, which one doomed
-        request alone need not."""
+        """A task closes a DCB after a request to another one. A second task waits for each of two requests to the closed DCB,
+        purges the other one, and reads. As it waits for the first, the second one arrives after the request that is purged, which
+        one doomed request alone need not."""
         unit = self.chance.randrange(len(self.kinds))
         closer, waiter = self.chance.sample(range(self.tasks), 2)
         first, second, third = self.dcbs_of(unit)

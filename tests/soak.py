@@ -108,8 +108,8 @@ def script_of(shape, seed):
 
 
 def stopped_for(pid, thread, seconds, until):
-    """Stops a thread of a run for so long. Returns the status if the run has ended, and else nothing. A thread that does not stop until
-    this moment is left."""
+    """Stops a thread of a run for so long. Returns the status if the run has ended, and else nothing. A thread that does not stop
+    until this moment is left."""
     if LIBC.ptrace(SEIZE, thread, None, None) != 0:
         return None
     LIBC.ptrace(INTERRUPT, thread, None, None)
@@ -133,7 +133,8 @@ def stopped_for(pid, thread, seconds, until):
 
 @contextlib.contextmanager
 def first_thread_held(pid, begin):
-    """Lets a run begin by this call, and stops the first thread that it makes, from its first instruction to the end of the block."""
+    """Lets a run begin by this call, and stops the first thread that it makes, from its first instruction to the end of the
+    block."""
     if LIBC.ptrace(SEIZE, pid, None, THREADS) != 0:
         raise Skipped("threads cannot be stopped: ptrace is not allowed")
     begin()

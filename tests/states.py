@@ -1,5 +1,6 @@
-"""The states of a run that the debugger computes (python/excp/debugging), against the record of it, by excp_tools or by the library: the bytes
-that each step shows, the IOB, the ECB and the shown bytes of each post, and the medium at the end. Going back gives each state again.
+"""The states of a run that the debugger computes (python/excp/debugging), against the record of it, by excp_tools or by the
+library: the bytes that each step shows, the IOB, the ECB and the shown bytes of each post, and the medium at the end. Going back
+gives each state again.
 """
 
 import json
@@ -27,7 +28,8 @@ INDIRECT = 0x04
 
 def record_of(setup, script):
     """The lines of the record of a script, with all steps, as threads run it."""
-    ran = subprocess.run([setup.tools, "report", "form=steps"], input=script.encode(), capture_output=True, timeout=SECONDS, check=True)
+    ran = subprocess.run([setup.tools, "report", "form=steps"], input=script.encode(), capture_output=True, timeout=SECONDS,
+                         check=True)
     return ran.stdout.decode().splitlines(True)
 
 
@@ -54,7 +56,8 @@ def state_of(walk):
     medium = walk.medium
     content = medium.tracks if isinstance(medium, DiskState) else medium.items if isinstance(medium, TapeState) else medium.lines
     storage = walk.storage
-    return walk.at, walk.step, storage.bytes_at(storage.base, storage.end - storage.base), medium.place(), json.dumps(content, default=bytes.hex)
+    data = storage.bytes_at(storage.base, storage.end - storage.base)
+    return walk.at, walk.step, data, medium.place(), json.dumps(content, default=bytes.hex)
 
 
 def media_in(lines):
@@ -147,7 +150,8 @@ def check_states(script, lines):
         is_last = walk.at + 1 == len(recording) or recording.request(walk.at + 1).unit != walk.request.unit
         if is_last:
             unit = walk.request.unit
-            require(medium_of(walk.medium) == media[unit], f"unit {unit} has another medium: {medium_of(walk.medium)}, not {media[unit]}")
+            require(medium_of(walk.medium) == media[unit],
+                    f"unit {unit} has another medium: {medium_of(walk.medium)}, not {media[unit]}")
         if not walk.next_request():
             break
     for state in reversed(states):

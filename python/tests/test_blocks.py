@@ -34,7 +34,8 @@ class Blocks(unittest.TestCase):
         self.assertEqual((ccw.to_bytes(), Ccw.from_bytes(image)), (image, ccw))
 
     def test_iob_keeps_each_field_at_its_place(self):
-        iob = Iob(0x123456, 0x345678, 0x56789A, Seek(1, 0x0203, 0x0405, 0x0607, 8), 0xC6, 0x0910, 0x7F, Csw(0x111213, 0x0C, 0x40, 0x1415))
+        iob = Iob(0x123456, 0x345678, 0x56789A, Seek(1, 0x0203, 0x0405, 0x0607, 8), 0xC6, 0x0910, 0x7F,
+                  Csw(0x111213, 0x0C, 0x40, 0x1415))
         image = iob.to_bytes()
         places = {0: "C6", 2: "0910", 4: "7F", 5: "123456", 9: "1112130C401415", 17: "345678", 21: "56789A", 32: "0102030405060708"}
         for place, digits in places.items():

@@ -353,7 +353,8 @@ class Images(unittest.TestCase):
 
     def test_mistakes(self):
         with Site() as site:
-            for call, words in ((lambda: site.tape_from(aws(b"FIRST")[:-1]), r"^byte 0: "), (lambda: site.disk_from(b"CKD_"), r"^byte 4: "),
+            for call, words in ((lambda: site.tape_from(aws(b"FIRST")[:-1]), r"^byte 0: "),
+                                (lambda: site.disk_from(b"CKD_"), r"^byte 4: "),
                                 (lambda: site.tape_from(aws(b"FIRST"), length=8), r"^byte 0: ")):
                 with self.assertRaisesRegex(excp.BadImage, words) as caught:
                     call()
@@ -456,7 +457,8 @@ class Mistakes(unittest.TestCase):
         """ctypes would make 0 of 65,536."""
         with Site() as site:
             disk, dcb = a_disk(site)
-            calls = lambda: site.issue(65536, dcb, read_record()), lambda: disk.run(2**32), lambda: disk.run(-1), disk.dcb(65537).close
+            calls = [lambda: site.issue(65536, dcb, read_record()), lambda: disk.run(2**32), lambda: disk.run(-1),
+                     disk.dcb(65537).close]
             for call in calls:
                 with self.assertRaises(excp.BadNumber):
                     call()

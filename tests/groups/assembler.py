@@ -166,7 +166,8 @@ def loads_sizes(setup):
         expect(setup.run("convert", "--to", "ckd", f"{folder}/disk", "--output", f"{folder}/disk.ckd"), (0, ""))
         with open(f"{folder}/job", "w") as opened:
             opened.write("tasks 1\ndisk 0 0 - - -\nopen 0 out all\narea 0\nendarea\n")
-        expect(setup.run("check", "--load", f"0={folder}/disk.ckd", f"{folder}/job"), (0, f"{folder}/job:4: note: no excp uses area 0\n"))
+        expect(setup.run("check", "--load", f"0={folder}/disk.ckd", f"{folder}/job"),
+               (0, f"{folder}/job:4: note: no excp uses area 0\n"))
 
 
 def is_at_limit(setup, script, due):
@@ -199,7 +200,8 @@ def limits():
     origins = "L0:\n" + "ORG L0\n" * 100_000
     due = len("# area 0 001000\n# L0:\narea 0 001000 -\n") + 100_000 * len("# ORG L0\n")
     yield "many origins", f"area 0 001000\n{origins}endarea\n", (0, due, "")
-    text = "not a constant: expected X'DIGITS', C'TEXT' or CA'TEXT', with a number of repeats before it or none, and each apostrophe of a text twice"
+    text = "not a constant: expected X'DIGITS', C'TEXT' or CA'TEXT', with a number of repeats before it or none"
+    text = f"{text}, and each apostrophe of a text twice"
     faults = "".join(f"<stdin>:{line}:20: Number: ?: {text}\n" for line in range(1, 8_001))
     yield "many lines whose faults come after long constants", "block 0 65535X'00' ?\n" * 8_000, (1, 0, faults)
     text = "this is outside of the area: an area has at most 8192 bytes, and ends at X'FFFFFF' at the latest"

@@ -147,7 +147,8 @@ def runs(name, linked):
     built()
     version = re.search(r'^pub const VERSION: &str = "(.*)";$', read(f"{TOP}/crates/run_options/src/lib.rt"), re.M)[1]
     with tempfile.TemporaryDirectory() as folder:
-        words = [compiler(), "-std=c11", "-Wall", "-Wextra", "-Werror", f'-DVERSION="{version}"', f"-I{LIBRARY}", f"{CASES}/c/{name}.c"]
+        words = [compiler(), "-std=c11", "-Wall", "-Wextra", "-Werror", f'-DVERSION="{version}"', f"-I{LIBRARY}",
+                 f"{CASES}/c/{name}.c"]
         words += ["-o", f"{folder}/{name}"]
         words += [f"{LIBRARY}/libexcp.a"] if linked == "static" else [f"-L{LIBRARY}", "-lexcp", f"-Wl,-rpath,{LIBRARY}"]
         ran = run(words)
@@ -176,7 +177,8 @@ def needs_a_compiler():
             for given, text in NO_COMPILERS.items():
                 path = f"{folder}:{os.environ['PATH']}"
                 ran = run(["env", f"CC={given}", f"PATH={path}", f"{TOP}/tools/library.py", *words])
-                require(ran.status == 3 and ran.err.startswith(f"excp: {text}") and not ran.out, f"another text for CC={given}", ran)
+                require(ran.status == 3 and ran.err.startswith(f"excp: {text}") and not ran.out, f"another text for CC={given}",
+                        ran)
         require(not os.path.exists(f"{folder}/called"), "it called rt")
     ran = run([f"{TOP}/tools/library.py", "--unprooved"])
     require(ran.status == 2 and "tools/library.py --unproved" in ran.err, "no usage", ran)
@@ -207,7 +209,8 @@ def unproved_call_each():
     text = unproved_exports().main_of()
     calls = {name: values for name, values in re.findall(r"::excp_call_(\w+)\((.*)\);", text)}
     exports = {name: parameters for name, parameters in EXPORT.findall(sources())}
-    require(calls.keys() == exports.keys() and text.count("::excp_call_") == len(exports), f"it calls others: {differing(calls, exports)}")
+    require(calls.keys() == exports.keys() and text.count("::excp_call_") == len(exports),
+            f"it calls others: {differing(calls, exports)}")
     count = lambda words: len([it for it in words.split(",") if it.strip()])
     wrong = [name for name in calls if count(calls[name]) != count(exports[name])]
     require(not wrong, f"another number of values for {wrong}")
@@ -234,14 +237,16 @@ def has_a_library():
 
 
 def installs():
-    """`make -C c install` installs the library, with which pkg-config and CMake build the example. A program finds it by its number."""
+    """`make -C c install` installs the library, with which pkg-config and CMake build the example. A program finds it by its
+    number."""
     compiler()
     has_a_library()
     with tempfile.TemporaryDirectory() as folder:
         for words in (["PREFIX=/opt/excp", f"DESTDIR={folder}/image"], [f"PREFIX={folder}/own"]):
             ran = run(["make", "-C", f"{TOP}/c", "install", *words])
             require(ran.status == 0, "it does not install", ran)
-        names = [os.path.relpath(f"{at}/{it}", f"{folder}/image/opt/excp") for at, _, files in os.walk(f"{folder}/image") for it in files]
+        names = [os.path.relpath(f"{at}/{it}", f"{folder}/image/opt/excp") for at, _, files in os.walk(f"{folder}/image")
+                 for it in files]
         shared = next((it for it in names if re.fullmatch(r"lib/libexcp\.so\.\d+\.\d+", it)), "")
         number = shared.rpartition(".")[0]
         due = ["include/excp.h", "lib/libexcp.a", "lib/libexcp.so", number, shared, "lib/pkgconfig/excp.pc"]
@@ -273,7 +278,8 @@ def says_what_it_is():
     """The library that is built says whether it is proved, in C and in Python, as tools/library.py said."""
     has_a_library()
     text = "import excp; print(excp.is_proved(), excp.version() == excp.__version__)"
-    ran = run([sys.executable, "-B", "-c", text], env={**os.environ, "PYTHONPATH": f"{TOP}/python", "EXCP_LIBRARY": f"{LIBRARY}/libexcp.so"})
+    ran = run([sys.executable, "-B", "-c", text],
+              env={**os.environ, "PYTHONPATH": f"{TOP}/python", "EXCP_LIBRARY": f"{LIBRARY}/libexcp.so"})
     require((ran.status, ran.err) == (0, "") and ran.out in ("True True\n", "False True\n"), "another text", ran)
     return f"the library in out/library is {'proved' if ran.out.startswith('True') else 'not proved'}"
 

@@ -129,14 +129,16 @@ REJECTED = [
     (["assemble", "--channels", "2"], unknown("assemble", "--channels")),
     (["assemble", "--steps"], unknown("assemble", "--steps")),
     (["step", "--steps"], unknown("step", "--steps")),
-    *((["report", *words, "--most-steps", "2"], needs("report", "--steps, --all-steps or --json")) for words in ([], ["--html"], ["--posts"], ["--listing"])),
+    *((["report", *words, "--most-steps", "2"], needs("report", "--steps, --all-steps or --json"))
+      for words in ([], ["--html"], ["--posts"], ["--listing"])),
     *((["step", *words, "--most-steps", "2"], needs("step", "--json")) for words in ([], ["--html"], ["--trace"])),
     (["report", "--scenario", "x"], wrong("report", "--scenario FILE needs --seed N")),
     (["check", "--save", "0=x"], unknown("check", "--save")),
     (["outcomes", "--save", "0=x"], unknown("outcomes", "--save")),
     *(
         ([word, "--load", it], no_unit_file(word, "load", it))
-        for word, it in (("report", "x"), ("step", "64=x"), ("report", "=x"), ("report", "+1=x"), ("check", "0="), ("outcomes", "0"))
+        for word, it in (("report", "x"), ("step", "64=x"), ("report", "=x"), ("report", "+1=x"), ("check", "0="),
+                         ("outcomes", "0"))
     ),
     (["report", "--save", "64=x"], no_unit_file("report", "save", "64=x")),
     (["check", "--load", "7=x", "--load", "7=y"], wrong("check", "--load names each unit once")),
@@ -148,7 +150,8 @@ REJECTED = [
     (["convert", "--to", "aws", "x"], wrong("convert", "--to FORMAT and --output OUT go together")),
     (["convert", "--output", "y", "x"], wrong("convert", "--to FORMAT and --output OUT go together")),
     (["describe"], wrong("describe", "the following arguments are required: IMAGE")),
-    *((["report", "--color", it], wrong("report", f"argument --color: '{it}': expected auto, always or never")) for it in ("", "red")),
+    *((["report", "--color", it], wrong("report", f"argument --color: '{it}': expected auto, always or never"))
+      for it in ("", "red")),
     (["step", "--color", "never"], unknown("step", "--color")),
     (["report", "--steps=1"], wrong("report", "argument --steps: ignored explicit argument '1'")),
     (["report", "--channels", "-1"], no_number("report", "channels", "-1", 1, 16)),
@@ -366,13 +369,14 @@ def of_unusable(setup, word, name, why):
     expect(run(setup.command(word, name)), (1, "", f"excp: {name}: {why}\n"))
 
 
-# Scripts that are rejected, each with a part of what `check` finds: by a line, by a medium, by extents, by a request, by what no line
-# declares, and by a symbolic area.
+# Scripts that are rejected, each with a part of what `check` finds: by a line, by a medium, by extents, by a request, by what no
+# line declares, and by a symbolic area.
 FAULTY = [
     ("tasks 1\nopne\n", ":2: Words: no line begins with 'opne'; did you mean 'open'?\n"),
     ("tasks 1\ntape 0 0 3\nwait 0\n", ":2: Medium: 3 bytes: a tape has 4 to 16777216\n"),
     ("tasks 1\ntape 0 0 12\nopen 0 out 18\nwait 0\n", ":3: "),
-    ("tasks 1\ntape 0 0 12\nopen 0 out\narea 0 001000 -\nexcp 0 0 1 001000 0 001000 0\n", ":5: Request: the IOB at 001000 does not lie"),
+    ("tasks 1\ntape 0 0 12\nopen 0 out\narea 0 001000 -\nexcp 0 0 1 001000 0 001000 0\n",
+     ":5: Request: the IOB at 001000 does not lie"),
     ("tape 0 0 12\n", ": Order: no line declares the tasks: add a line 'tasks N'\n"),
     ("area 0 001000\nECB 1\nendarea\n", ":2:5: Words: 1: one operand too many\n"),
 ]
@@ -427,7 +431,8 @@ def shows_control_characters(setup):
         require(ran.status == 0 and ran.out.startswith(f"tape{shown}: tape image"), "another name", ran)
         for words in ["--save", f"1={name}"], ["--load", f"1=tape{name}"]:
             ran = run(setup.command("report", *words), "tasks 1\ntape 0 0 9\nwait 0\n", cwd=work)
-            require(ran.status == 1 and f"excp: {words[1].replace(name, shown)}: no line declares unit 1\n" == ran.err, "another name", ran)
+            require(ran.status == 1 and f"excp: {words[1].replace(name, shown)}: no line declares unit 1\n" == ran.err,
+                    "another name", ran)
 
 
 def not_utf8(setup, words, status, text):
@@ -449,7 +454,8 @@ def takes_odd_names(setup):
         expect(run(setup.command("check", "--load", f"{load}x", name)), (1, "", f"excp: {work}/\udcfex: there is no such file\n"))
         ran = run(setup.command("describe", f"{work}/\udcfe"))
         require((ran.status, ran.err) == (0, "") and ran.out.startswith(f"{work}/\udcfe: tape image"), "another name", ran)
-        expect(run(setup.command("check", "--\udcff")), (2, "", "excp: check: unrecognized arguments: --\udcff; excp check --help lists the options\n"))
+        expect(run(setup.command("check", "--\udcff")),
+               (2, "", "excp: check: unrecognized arguments: --\udcff; excp check --help lists the options\n"))
 
 
 def without_reader(setup, words, file, status, said):
@@ -525,7 +531,8 @@ def colours_a_pipe(setup, script):
 
 def cases(setup):
     def case(name, judge, *given, **named):
-        return Case(name, lambda: judge(*given, **named), "tests/groups/command_line.py, by docs/MANUAL.md, docs/help and the texts of argparse and clap")
+        return Case(name, lambda: judge(*given, **named),
+                    "tests/groups/command_line.py, by docs/MANUAL.md, docs/help and the texts of argparse and clap")
 
     stored = read(POSTS)
     for words in ACCEPTED:
@@ -553,7 +560,8 @@ def cases(setup):
     for words in REJECTED_BY_TOOLS:
         yield case(f"excp_tools {words}", rejects_words, setup, words)
     yield case("run to a reader that is gone", without_reader, setup, ["run"], STORED, 1, "excp_job: output not written\n")
-    yield case("check of faults to a reader that is gone", without_reader, setup, ["check"], f"{CASES}/refusals/check.script", 1, "")
+    yield case("check of faults to a reader that is gone", without_reader, setup, ["check"], f"{CASES}/refusals/check.script", 1,
+               "")
     faults, ends = f"{CASES}/refusals/check.script", f"{SAMPLES}/how-programs-end.script"
     yield case("check in colour on a terminal", coloured, setup, ["check"], faults, by_place)
     yield case("check in colour with NO_COLOR empty", coloured, setup, ["check"], faults, by_place, NO_COLOR="")

@@ -1,9 +1,9 @@
 """`excp debug`: sessions on small jobs, worked by hand; the states of all stored scripts and of small jobs at random, which
-tests/states.py judges by the record of the run; words at random; images; the bound on steps; large jobs; screens, under tmux; the slider of
-pages, in Chromium.
+tests/states.py judges by the record of the run; words at random; images; the bound on steps; large jobs; screens, under tmux; the
+slider of pages, in Chromium.
 
-A session of tests/cases/debug is a job and what is printed on standard output. Its lines that begin with `debug> ` are the commands, and
-its last line has the exit status.
+A session of tests/cases/debug is a job and what is printed on standard output. Its lines that begin with `debug> ` are the
+commands, and its last line has the exit status.
 """
 
 import glob
@@ -37,9 +37,10 @@ SESSIONS_LONG = 1000
 PROMPT = "debug> "
 
 # Words of which sessions at random are made, right and wrong.
-WORDS = """step|s 3|back|b 2|run|run CP|run 001030|error|e|post|p|request 1|request 0.1 0|q|requests|watch area,8|watch IOB|watch 001000,4
-unwatch 1|show storage|show storage area+8,16|show medium|show medium 0 0|show status|list|help|again|stp|show|step x|run NO+1|watch|set 1 tasks 1
-set CP NOP|set 2 # nothing|back 1000|step 1000|request 99|show storage FFFFFF,1|watch X,Y|save|é|step 99999999""".replace("\n", "|").split("|")
+WORDS = """step|s 3|back|b 2|run|run CP|run 001030|error|e|post|p|request 1|request 0.1 0|q|requests|watch area,8|watch IOB
+watch 001000,4|unwatch 1|show storage|show storage area+8,16|show medium|show medium 0 0|show status|list|help|again|stp|show|step x
+run NO+1|watch|set 1 tasks 1|set CP NOP|set 2 # nothing|back 1000|step 1000|request 99|show storage FFFFFF,1|watch X,Y|save|é
+step 99999999""".replace("\n", "|").split("|")
 
 
 def session(setup, job, commands, *options, name="job"):
@@ -217,7 +218,8 @@ def page_of(setup, script):
 
 
 def page_has_states(setup):
-    """At the last step of each request a page has the bytes that its post shows, its IOB and its ECB, in storage made of its states."""
+    """At the last step of each request a page has the bytes that its post shows, its IOB and its ECB, in storage made of its
+    states."""
     count, missing = 0, []
     for name, script in scripts():
         if ".script" not in name:
@@ -240,7 +242,8 @@ def page_has_states(setup):
             address, length = shows[post["task"], post["unit"], post["request"]]
             iob = int(post["iob_at"], 16) - base
             shown = storage[address - base : address - base + length].hex().upper()
-            require(shown == post["shown"] and storage[iob : iob + 40].hex().upper() == post["iob"], f"{name}: {key}: {shown}, {post}")
+            require(shown == post["shown"] and storage[iob : iob + 40].hex().upper() == post["iob"],
+                    f"{name}: {key}: {shown}, {post}")
             count += 1
     require(count > 30, f"only {count} requests")
     require(len(missing) <= 1, f"pages without states: {missing}")
@@ -249,10 +252,14 @@ def page_has_states(setup):
 
 # What the slider of a request shows at some of its steps, and what it does not.
 SHOWN = {
-    0: (["before the first command", "0 of 11 commands done", "> at the index point", "001068 00000000 00000000", "20 PEARS"], ["19 PEARS |", "attempt"]),
-    3: (["3. 001040 060010684000000C read data CC", "3 of 11", "001068 F2F040D7 C5C1D9E2", "> 0000000002, key D4C9D3D3 C5D94040 |MILLER |"], ["F1F940D7 C5C1D9E2 40404040"]),
+    0: (["before the first command", "0 of 11 commands done", "> at the index point", "001068 00000000 00000000", "20 PEARS"],
+        ["19 PEARS |", "attempt"]),
+    3: (["3. 001040 060010684000000C read data CC", "3 of 11", "001068 F2F040D7 C5C1D9E2",
+         "> 0000000002, key D4C9D3D3 C5D94040 |MILLER |"],
+        ["F1F940D7 C5C1D9E2 40404040"]),
     5: (["5 of 11", "attempt 2", "> 0000000001", "001068 F2F040D7 C5C1D9E2"], []),
-    11: (["11. 001058 050010740000000C write data", "data F1F940D7 C5C1D9E2 40404040 |19 PEARS |", "001028 00000000 00000000"], ["20 PEARS |", "7F"]),
+    11: (["11. 001058 050010740000000C write data", "data F1F940D7 C5C1D9E2 40404040 |19 PEARS |", "001028 00000000 00000000"],
+         ["20 PEARS |", "7F"]),
     12: (["task 0 request 1 posted 7F", "001000 42000000 7F001028", "001008 00001060 0C000000", "001028 7F000000 00000000"], []),
 }
 
@@ -267,7 +274,8 @@ def slider_shows_states(setup):
             it.open(f"{folder}/page.html", "#q0-0-1", width=width)
             require(it.value("document.querySelector('.states input').max") == "12", "the slider has another end")
             for step in [*SHOWN, *reversed(SHOWN)]:
-                it.value(f"(it => {{ it.value = {step}; it.dispatchEvent(new Event('input')); }})(document.querySelector('.states input'))")
+                it.value(f"(it => {{ it.value = {step}; it.dispatchEvent(new Event('input')); }})"
+                         "(document.querySelector('.states input'))")
                 text = " ".join(it.value("document.querySelector('.state').innerText").split())
                 has, lacks = SHOWN[step]
                 wrong = [one for one in has if one not in text] + [one for one in lacks if one in text]
@@ -287,7 +295,8 @@ class Terminal:
         with open(f"{self.folder.name}/job", "w", encoding="utf-8") as file:
             file.write(job)
         command = shlex.join([*setup.command("debug", *options), "job"]) + "; echo ended $?; sleep 60"
-        self.tmux("-u", "-f", "/dev/null", "new-session", "-d", "-x", str(columns), "-y", str(lines), "-c", self.folder.name, command)
+        self.tmux("-u", "-f", "/dev/null", "new-session", "-d", "-x", str(columns), "-y", str(lines), "-c", self.folder.name,
+                  command)
 
     def __enter__(self):
         return self
@@ -298,7 +307,8 @@ class Terminal:
 
     def tmux(self, *words):
         command = ["tmux", "-S", self.socket, *words]
-        return subprocess.run(command, capture_output=True, text=True, timeout=SECONDS, check=False, env={**os.environ, "LC_ALL": "C.UTF-8"})
+        return subprocess.run(command, capture_output=True, text=True, timeout=SECONDS, check=False,
+                              env={**os.environ, "LC_ALL": "C.UTF-8"})
 
     def shows(self, *texts, without=()):
         """Waits until the screen has these texts, and none of the others. Returns its lines."""
@@ -323,8 +333,8 @@ def needs_tmux():
 
 
 def finds_on_a_terminal(setup):
-    """On a terminal a wrong search argument is found and mended: the panes have program, storage and medium, and keys go forward and
-    back."""
+    """On a terminal a wrong search argument is found and mended: the panes have program, storage and medium, and keys go forward
+    and back."""
     needs_tmux()
     job = next(job for name, job, _, _ in worked() if name == "a_wrong_search_argument")
     with Terminal(setup, job, 120, 34) as it:
@@ -337,7 +347,8 @@ def finds_on_a_terminal(setup):
         it.types("eror")
         it.shows("eror: no such word; did you mean 'error'?", "request 0.1 0: 0 of 7 commands done")
         it.types("error")
-        it.shows("no record found on cylinder 0 head 0 after 6 records", "it searched for ID 001048 ID: 00000000 03", "request 0.1 0: 7 of 7")
+        it.shows("no record found on cylinder 0 head 0 after 6 records", "it searched for ID 001048 ID: 00000000 03",
+                 "request 0.1 0: 7 of 7")
         it.types("set ID 0,0,2")
         it.shows("the job ran again: 1 post, none with an error", "ID:     CCHHR 0,0,2", "request 0.1 0: 0 of 4 commands done")
         it.types("run")
@@ -387,6 +398,7 @@ def cases(setup):
     for first in range(0, JOBS_LONG if setup.is_long else JOBS, BATCH):
         yield Case(f"states of jobs at random from {first}", lambda first=first: random_states(first), ORIGIN)
     count = SESSIONS_LONG if setup.is_long else SESSIONS
-    for call in page_has_states, slider_shows_states, loads_an_image, names_its_bound, rejects, large_job, finds_on_a_terminal, fits_each_terminal:
+    for call in (page_has_states, slider_shows_states, loads_an_image, names_its_bound, rejects, large_job, finds_on_a_terminal,
+                 fits_each_terminal):
         yield Case(call.__name__, lambda call=call: call(setup), ORIGIN)
     yield Case("takes_any_words", lambda: takes_any_words(setup, count), ORIGIN)

@@ -67,7 +67,8 @@ def layers_hold():
 # What may be below excp_job, the program of the promises: what reads a script, and what its requests need. Nothing of reports,
 # histories, records, images, steps or outcomes.
 RUN = """io_images io_area device_port ckd_disk tape_unit line_printer any_device ccw_programs subchannel recovery request_piece
-unit_queue unit_book serial_order fifo_row signed_list excp_system post_ledger system_threads post_lines script_words job_script job_mount job_run
+unit_queue unit_book serial_order fifo_row signed_list excp_system post_ledger system_threads post_lines script_words job_script
+job_mount job_run
 run_options excp_job""".split()
 MOST = 28
 
@@ -163,7 +164,8 @@ def quotes_hold(page):
     content = read(f"{TOP}/docs/{page}")
     quotes = QUOTE.findall(content)
     marks = len(re.findall(r"^```", content, re.M))
-    require(quotes and marks == 2 * len(quotes), f"docs/{page}: {marks // 2} blocks of code, of which {len(quotes)} name their file")
+    require(quotes and marks == 2 * len(quotes),
+            f"docs/{page}: {marks // 2} blocks of code, of which {len(quotes)} name their file")
     for file, block in quotes:
         require(has(file, block), f"docs/{page}: {file} has no such lines:\n{block}")
 
@@ -188,7 +190,8 @@ def left_out_is_rejected(setup):
     rows = LEFT_OUT.findall(read(f"{TOP}/docs/SPECIFICATION.md"))
     require(len(rows) > 10, f"{len(rows)} rows of commands left out")
     for device, commands_of_row in rows:
-        codes = re.findall(r"\b(?=[0-9A-F]*[0-9])[0-9A-F]{2}\b(?! to)|\b(?:AF|FA|DE|FB|EB|CB|DB)\b", commands_of_row.replace("2 to 12", ""))
+        codes = re.findall(r"\b(?=[0-9A-F]*[0-9])[0-9A-F]{2}\b(?! to)|\b(?:AF|FA|DE|FB|EB|CB|DB)\b",
+                           commands_of_row.replace("2 to 12", ""))
         areas = "".join(f"area {AREA.format(place=place, code=code)}\n" for place, code in enumerate(codes))
         issues = "".join(f"excp 0 0 1 001000 {place} 001038 0\n" for place in range(len(codes)))
         script = f"tasks 1\n{UNITS[device[:4]]}\n{areas}{issues}"
@@ -200,11 +203,13 @@ def cases(setup):
     yield Case("sentences", lambda: passes("sentences"), "tests/sentences, by CONTRIBUTING.md")
     yield Case("the measure of sentences", lambda: passes("sentences", "--self-test"), "tests/sentences, texts with known measures")
     yield Case("definitions", lambda: passes("definitions"), "tests/shared_names")
-    yield Case("the list of definitions", lambda: passes("definitions", "--self-test"), "tests/definitions, crates with known faults")
+    yield Case("the list of definitions", lambda: passes("definitions", "--self-test"),
+               "tests/definitions, crates with known faults")
     yield Case("definitions of the headline", lambda: passes("closure", "--check"), "docs/PROVED.md, by tests/closure")
     yield Case("the list of the headline", lambda: passes("closure", "--self-test"), "tests/closure, specs with a known list")
     yield Case("the lines of a script", lambda: passes("lines", "--check"), "docs/MANUAL.md, by python/excp/script")
-    yield Case("what calls reject", lambda: passes("refusals.py", folder="tools"), "tools/refusals.py, by the comments of the calls")
+    yield Case("what calls reject", lambda: passes("refusals.py", folder="tools"),
+               "tools/refusals.py, by the comments of the calls")
     yield Case("edits of mutants", lambda: passes("edits"), "docs/TESTING.md, by tests/edits")
     yield Case("the rules of edits", lambda: passes("edits", "--self-test"), "tests/edits, edits with known faults")
     yield Case("types of python/excp", has_types, "docs/TESTING.md, by mypy --strict")

@@ -14,8 +14,8 @@ from small_jobs import small_job
 
 ORIGIN = "docs/MANUAL.md, every outcome of a job: over all lawful orders of the steps"
 
-# How many small jobs there are, also in the long form, and how many are one case. Each runs by these turns. Of the jobs of a case the
-# program may leave so many unfinished.
+# How many small jobs there are, also in the long form, and how many are one case. Each runs by these turns. Of the jobs of a case
+# the program may leave so many unfinished.
 JOBS = 200
 JOBS_LONG = 2_000
 BATCH = 20
@@ -74,7 +74,8 @@ def every_order(setup, script, *words):
 def outcomes(setup, script, *words):
     """What `outcomes` finds: the posts of each request, and the whole outputs."""
     told, outputs, last = told_by(setup, script, "--whole", "--all", *words)
-    require(re.search(rf", {len(outputs)} whole outputs?\)$", last) and not last.startswith("not all"), f"the last line is {last!r}")
+    require(re.search(rf", {len(outputs)} whole outputs?\)$", last) and not last.startswith("not all"),
+            f"the last line is {last!r}")
     found = [tuple(f"post {name} {post}" for name, post in it.items()) for it in outputs]
     require(len(set(found)) == len(found), "a whole output is printed twice")
     return {name: set(posts) for name, posts in told.items()}, set(found)
@@ -148,7 +149,8 @@ def is_same_by_history(setup, first):
             words = "--turn", str(turn), "--most-states", str(MOST_HISTORIES)
             by_history = every_order(setup, script, "--by-history", *words)
             if by_history:
-                require(every_order(setup, script, *words) == by_history, f"by their histories, books come to other posts; of\n{script}")
+                require(every_order(setup, script, *words) == by_history,
+                        f"by their histories, books come to other posts; of\n{script}")
 
 
 def is_cut(setup):

@@ -41,7 +41,8 @@ ATTRIBUTES = {
     "failure": {"message"},
     "skipped": {"message"},
 }
-CHILDREN = {"testsuites": {"testsuite"}, "testsuite": {"testcase"}, "testcase": {"failure", "skipped"}, "failure": (), "skipped": ()}
+CHILDREN = {"testsuites": {"testsuite"}, "testsuite": {"testcase"}, "testcase": {"failure", "skipped"}, "failure": (),
+            "skipped": ()}
 
 
 @contextlib.contextmanager
@@ -143,7 +144,8 @@ def runs_scenarios(setup):
 
 def finds_files(setup):
     """Folders are searched in order, without hidden files and others; a file may have any name."""
-    files = {"b/z.script": READ, "b/z.posts": POSTS, "a/y.symbolic": SYMBOLIC, "a/y.posts": POSTS, "a-b/x.script": READ, "a-b/x.posts": POSTS}
+    files = {"b/z.script": READ, "b/z.posts": POSTS, "a/y.symbolic": SYMBOLIC, "a/y.posts": POSTS, "a-b/x.script": READ,
+             "a-b/x.posts": POSTS}
     files |= {"job": SYMBOLIC, "job.posts": POSTS, "b/read.report": "", "notes": "", ".hidden/a.script": READ, "b/.a.script": READ}
     names = ["a/y.symbolic", "a-b/x.script", "b/z.script", "job"]
     for path in ".", "./", "../" :
@@ -187,7 +189,8 @@ def misses_paths(setup):
 
 def selects(setup):
     """-k selects by a part of the name, several by any of them; options and paths come in any order."""
-    files = {f"{name}/{job}.{end}": text for name in ("disk", "tape") for job in ("one", "two") for end, text in (("script", READ), ("posts", POSTS))}
+    files = {f"{name}/{job}.{end}": text for name in ("disk", "tape") for job in ("one", "two")
+             for end, text in (("script", READ), ("posts", POSTS))}
     for words, names in {
         ("-k", "one", "."): ["disk/one", "tape/one"],
         (".", "-k", "tape/"): ["tape/one", "tape/two"],
@@ -198,7 +201,8 @@ def selects(setup):
 
 def accepts(setup):
     """--accept writes what is not there or differs, says so, and nothing else. Then all passes."""
-    files = {"a.script": READ, "a.posts": POSTS, "b.symbolic": SYMBOLIC, "c.script": READ, "c.posts": OTHER, "d.script": "nothing\n"}
+    files = {"a.script": READ, "a.posts": POSTS, "b.symbolic": SYMBOLIC, "c.script": READ, "c.posts": OTHER,
+             "d.script": "nothing\n"}
     with folder_of(files) as folder:
         os.chmod(f"{folder}/c.posts", 0o640)
         kept = os.stat(f"{folder}/a.posts")
@@ -232,7 +236,8 @@ def accepts_no_others(setup):
             expect(ran, (1, f"FAILED a.script\n  a.posts: {text}\n{SUM(0, 1, '')}"))
             after = os.lstat(f"{folder}/a.posts")
             require((before.st_ino, before.st_size) == (after.st_ino, after.st_size), "the file has changed", ran)
-            require(len(os.listdir(folder)) <= 3 and not any(it.endswith(".excp-new") for it in os.listdir(folder)), "a new file is left")
+            require(len(os.listdir(folder)) <= 3 and not any(it.endswith(".excp-new") for it in os.listdir(folder)),
+                    "a new file is left")
 
     def holds(content, mode=0o644):
         def make(name):
@@ -332,7 +337,8 @@ def writes_no_junit(setup):
 def without_files(setup):
     """A file that is no job fails with a sentence, and nothing ends in a traceback."""
     image = b"\4\0\0\0\xa0\0data\0\0\4\0\x40\0"
-    files = {"image.script": image, "image.posts": POSTS, "long.script": "#" * 1_048_577, "long.posts": POSTS, "empty.script": "", "empty.posts": ""}
+    files = {"image.script": image, "image.posts": POSTS, "long.script": "#" * 1_048_577, "long.posts": POSTS, "empty.script": "",
+             "empty.posts": ""}
     with folder_of(files) as folder:
         for name in "gone.script", "gone.posts", "z.posts":
             os.symlink("nothing", f"{folder}/{name}")
@@ -353,7 +359,8 @@ def without_files(setup):
 
 def without_reader(setup):
     """A reader that is gone changes no status, and the report is written."""
-    files = {f"{name}.{end}": text for name in "abc" for end, text in (("script", READ), ("posts", OTHER if name == "c" else POSTS))}
+    files = {f"{name}.{end}": text for name in "abc"
+             for end, text in (("script", READ), ("posts", OTHER if name == "c" else POSTS))}
     for words, status in (["."], 1), (["a.script", "b.script"], 0):
         with folder_of(files) as folder:
             reader, writer = os.pipe()
@@ -371,7 +378,8 @@ def fails_with_programs(setup):
     """A program that cannot run, or ends otherwise, fails the tests of jobs. A scenario needs none."""
     if not setup.tools.startswith("/"):
         raise Skipped("no absolute path")
-    with folder_of({"a.script": READ, "a.posts": POSTS, "b.scenario": HALT, "bin/excp_tools": "#!/bin/sh\necho no memory >&2\nexit 3\n"}) as folder:
+    with folder_of({"a.script": READ, "a.posts": POSTS, "b.scenario": HALT,
+                    "bin/excp_tools": "#!/bin/sh\necho no memory >&2\nexit 3\n"}) as folder:
         os.chmod(f"{folder}/bin/excp_tools", 0o755)
         shutil.copy(f"{folder}/bin/excp_tools", f"{folder}/bin/excp_job")
         words = [f"{TOP}/tests/package.py", f"{folder}/bin/excp_tools", "test", "."]
@@ -381,7 +389,8 @@ def fails_with_programs(setup):
         os.remove(f"{folder}/bin/excp_job")
         os.mkdir(f"{folder}/bin/excp_job")
         ran = subprocess.run(["python3", *words], cwd=folder, capture_output=True, text=True, check=False)
-        require(ran.returncode == 1 and ran.stdout.startswith("FAILED a.script\n  excp_job cannot be run: "), f"another outcome: {ran}")
+        require(ran.returncode == 1 and ran.stdout.startswith("FAILED a.script\n  excp_job cannot be run: "),
+                f"another outcome: {ran}")
 
 
 def of_many_lines(setup):

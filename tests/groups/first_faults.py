@@ -1,5 +1,5 @@
-"""`check` finds no fault in a script exactly if it runs, and else finds the fault that a run reports, as the first one. Of a job with
-symbols it finds the mistakes of `assemble`, or what it finds in the plain script.
+"""`check` finds no fault in a script exactly if it runs, and else finds the fault that a run reports, as the first one. Of a job
+with symbols it finds the mistakes of `assemble`, or what it finds in the plain script.
 
 The scripts are those of samples/ and of tests/cases, and such scripts broken at random: a word dropped, replaced or swapped with
 another, a digit changed, a line dropped, moved or put in twice. tests/faults.py says which fault is the first. The group hostile

@@ -266,7 +266,8 @@ def het_is_read_by_hercules(setup):
 
 
 # How dasdinit makes a compressed volume: its options, the model, and cylinders. The last one has null tracks with records.
-PACKED = [(["-z"], "3390", "40"), (["-bz2"], "3390", "3"), (["-0"], "3380", "3"), (["-z"], "2311", "200"), (["-z", "-linux"], "3390", "40")]
+PACKED = [(["-z"], "3390", "40"), (["-bz2"], "3390", "3"), (["-0"], "3380", "3"), (["-z"], "2311", "200"),
+          (["-z", "-linux"], "3390", "40")]
 
 
 def disks_of_hercules(setup):
@@ -462,7 +463,8 @@ NO_IMAGES = [
     ("é\r\n\tno script\n".encode(), "this is a text, not an image; 'convert --to' makes an image of a script"),
     (b"\1\2\3\4\5\6\n", "byte 0: byte 5 of a header is 06, must be 00, or the file is no image of a tape"),
     (FBA, "this is an image of an FBA disk, which has blocks without count areas; CKD disks alone are supported"),
-    (b"FBA_C370" + bytes(504), "this is an image of an FBA disk, which has blocks without count areas; CKD disks alone are supported"),
+    (b"FBA_C370" + bytes(504),
+     "this is an image of an FBA disk, which has blocks without count areas; CKD disks alone are supported"),
     (b"CKD_C370" + bytes(504), "byte 8: a disk has 1 to 65,535 heads, and this one 0"),
     (b"CKD_C064" + bytes(504), "this is a compressed image of a disk (CCKD64); make a plain one, which begins with CKD_P370"),
     (b"CKD_S370" + bytes(504), "this is a shadow file of a compressed image of a disk (CCKD); make a plain image of both"),
@@ -478,7 +480,8 @@ def is_no_image(setup, data, said):
     """`describe`, `convert` and `--load` say what a file is that is no image."""
     with tempfile.TemporaryDirectory(prefix="images-") as folder:
         write(f"{folder}/it", data)
-        for words in ["describe", "it"], ["convert", "it"], *([word, "--load", "0=it"] for word in ("check", "report", "step", "outcomes")):
+        loading = ([word, "--load", "0=it"] for word in ("check", "report", "step", "outcomes"))
+        for words in ["describe", "it"], ["convert", "it"], *loading:
             expect(program(setup, folder, *words, script=TAPE), (1, "", f"excp: it: {said}\n"))
 
 
@@ -491,7 +494,8 @@ def is_unpacked_to_be_loaded(setup, name, image, saved):
         how = {"cwd": folder, "env": {**os.environ, "TMPDIR": f"{folder}/temporary"}}
         expect(run(words, idle(name), **how), (0, "end 0\n"))
         require(bytes_of(f"{folder}/saved") == saved, "another image is saved")
-        for word, script, save in ("outcomes", idle(name), ()), ("step", idle(name).replace("wait 0", "finish"), ("--save", "0=stepped")):
+        scenario = idle(name).replace("wait 0", "finish")
+        for word, script, save in ("outcomes", idle(name), ()), ("step", scenario, ("--save", "0=stepped")):
             ran = run(setup.command(word, "--load", "0=it", *save), script, **how)
             require((ran.status, ran.err) == (0, ""), "not loaded", ran)
         require(bytes_of(f"{folder}/stepped") == saved, "step saves another image")
@@ -524,8 +528,10 @@ FINDINGS = [
     (b"\5\0\0\0\xa2\0FIRST", "byte 0: the compressed data of a block is damaged: it is no data of bzip2"),
     (small_volume()[:100], "byte 100: the header of the image is cut short: 100 of 512 bytes"),
     (small_volume()[:-1], "byte 751: the image is cut short: 0 cylinders and 1 tracks of 2, must be at least one whole cylinder"),
-    (small_volume()[:17] + b"\1" + bytes(734), "byte 17: the image is a part of a split volume, file 1; copy the whole volume to one file"),
-    (small_volume()[:513] + b"\0\1" + bytes(237), "byte 512: the home address names another track: cylinder 1, head 0, must be cylinder 0, head 0"),
+    (small_volume()[:17] + b"\1" + bytes(734),
+     "byte 17: the image is a part of a split volume, file 1; copy the whole volume to one file"),
+    (small_volume()[:513] + b"\0\1" + bytes(237),
+     "byte 512: the home address names another track: cylinder 1, head 0, must be cylinder 0, head 0"),
     (small_volume()[:517] + b"\xff" * 8 + bytes(227), "byte 517: a track has no record, must have at least one: R0"),
     (small_volume()[:523] + b"\1\0" + bytes(227), "byte 517: a record goes past the end of its track: 264 bytes, 106 are left"),
 ]
@@ -700,7 +706,8 @@ def empty_file_is_called_empty(setup):
     with tempfile.TemporaryDirectory(prefix="images-") as folder:
         write(f"{folder}/it", b"")
         ran = program(setup, folder, "describe", "it")
-        require((ran.status, ran.err) == (0, "") and ran.out.startswith("it: tape image, AWSTAPE: the file is empty\n"), "not called empty", ran)
+        require((ran.status, ran.err) == (0, "") and ran.out.startswith("it: tape image, AWSTAPE: the file is empty\n"),
+                "not called empty", ran)
         require("line of a script: tape U ISC 4\n" in ran.out, "not the fewest bytes", ran)
         ran = program(setup, folder, "report", "--load", "0=it", script=DISK)
         expect(ran, (1, "", "<stdin>:2: Words: the image of this unit is an empty file, which is an empty tape\n"))
@@ -795,19 +802,23 @@ REJECTED = [
     (["report", "--load", "0=missing"], TAPE, "excp: missing: there is no such file\n"),
     (["report", "--load", "0=."], TAPE, "excp: .: it is a directory\n"),
     (["report", "--load", "0=disk"], TAPE, "<stdin>:2: Number: the image of this unit is a disk: expected a line 'disk U ISC -'\n"),
-    (["report", "--load", "0=disk"], "tasks 1\ntape 0 0 9\n", "<stdin>:2: Medium: the image of this unit is a disk: expected a line 'disk"),
-    (["outcomes", "--load", "0=tape"], DISK, "<stdin>:2: Words: the image of this unit is a tape: expected a line 'tape U ISC -'\n"),
+    (["report", "--load", "0=disk"], "tasks 1\ntape 0 0 9\n",
+     "<stdin>:2: Medium: the image of this unit is a disk: expected a line 'disk"),
+    (["outcomes", "--load", "0=tape"], DISK,
+     "<stdin>:2: Words: the image of this unit is a tape: expected a line 'tape U ISC -'\n"),
     (["step"], DISK, "<stdin>:2: Words: unit 0 has no size; name its image: --load 0=FILE\n"),
     (["step", "--load", "0=tape"], DISK, "<stdin>:2: Words: the image of this unit is a tape: expected a line 'tape U ISC -'\n"),
     (["report", "--load", "0=tape"], DISK, "<stdin>:2: Words: the image of this unit is a tape: expected a line 'tape U ISC -'\n"),
     (["report", "--load", "1=tape"], TAPE, "<stdin>:2: Number: unit 0 has no size; name its image: --load 0=FILE\n"),
     (["report", "--load", "0=tape", "--save", "1=other"], TAPE, "excp: 1=other: no line declares unit 1\n"),
     (["report", "--load", "0=tape", "--load", "1=./tape"], TAPE, "excp: ./tape: it is named for two units\n"),
-    (["report", "--load", "0=tape"], "tasks 1\ntape 0 0 20\nwait 0\n", "<stdin>:2: Medium: the tape holds 20 bytes, but its image needs 42\n"),
+    (["report", "--load", "0=tape"], "tasks 1\ntape 0 0 20\nwait 0\n",
+     "<stdin>:2: Medium: the tape holds 20 bytes, but its image needs 42\n"),
     (["report", "--load", "0=tape"], "tasks 1\ntape 0 0 -\nblock 0 C1\nwait 0\n", f"<stdin>:3: Medium: {CONTENT}"),
     (["report", "--load", "0=tape"], "tasks 1\ntape 0 0 -\nmark 0\nwait 0\n", f"<stdin>:3: Medium: {CONTENT}"),
     (["report", "--load", "0=disk"], "tasks 1\ndisk 0 0 -\nrec 0 0 0 1 - C1\nwait 0\n", f"<stdin>:3: Medium: {CONTENT}"),
-    (["report", "--load", "0=disk"], "tasks 1\ndisk 0 0 2 1 106\nwait 0\n", "<stdin>:2: Medium: the image has 1 cylinder of 2 heads, and 106 bytes a track\n"),
+    (["report", "--load", "0=disk"], "tasks 1\ndisk 0 0 2 1 106\nwait 0\n",
+     "<stdin>:2: Medium: the image has 1 cylinder of 2 heads, and 106 bytes a track\n"),
     (["report"], TAPE, "<stdin>:2: Number: unit 0 has no size; name its image: --load 0=FILE\n"),
     (["run"], TAPE, "excp_job: line 2: Number\n"),
     (["report", "--load", "0=tape", "--save", "0=none/there"], TAPE, "excp: none/there: there is no such directory\n"),
@@ -816,7 +827,8 @@ REJECTED = [
     (["report", "--save", "0=new", "--save", "1=new.excp-new"], TAPE, "excp: new.excp-new: it is named for two units\n"),
     (["report", "--load", "0=tape", "--save", "0=/dev/null"], TAPE, "excp: /dev/null: it is a device or a pipe\n"),
     (["convert", "missing"], "", "excp: missing: there is no such file\n"),
-    (["convert", "--to", "aws", "-o", "new", "-"], "tasks 1\ntape 0 0 9\ntape 1 0 9\n", "excp: <stdin>: it has 2 units: a script with one"),
+    (["convert", "--to", "aws", "-o", "new", "-"], "tasks 1\ntape 0 0 9\ntape 1 0 9\n",
+     "excp: <stdin>: it has 2 units: a script with one"),
     (["describe", "missing", "disk"], "", "excp: missing: there is no such file\n"),
 ]
 
@@ -956,7 +968,8 @@ def left_file_is_taken_over(setup):
         ran = program(setup, folder, "report", "--load", "0=tape.excp-new", "--save", "0=tape", script=TAPE)
         require(ran.status == 1 and bytes_of(left) == b"left", "it was overwritten, and read", ran)
         ran = program(setup, folder, "report", "--load", "0=tape", "--save", "0=tape", script=TAPE)
-        require(ran.status == 0 and "tape.excp-new, which a run that was killed left, was removed" in ran.err, "not taken over", ran)
+        require(ran.status == 0 and "tape.excp-new, which a run that was killed left, was removed" in ran.err, "not taken over",
+                ran)
         require(bytes_of(f"{folder}/tape") == whole and not os.path.exists(left), "another image, or a file is left", ran)
 
 
@@ -1010,7 +1023,8 @@ def cases(setup):
     for number, (data, said) in enumerate(NO_IMAGES, 1):
         yield Case(f"no image {number}: {said[:40]}", lambda d=data, s=said: is_no_image(setup, d, s), "docs/FORMATS.md")
     for number, it in enumerate(unpacked(), 1):
-        yield Case(f"compressed image {number} is loaded", lambda it=it: is_unpacked_to_be_loaded(setup, *it), "docs/MANUAL.md, Images")
+        yield Case(f"compressed image {number} is loaded", lambda it=it: is_unpacked_to_be_loaded(setup, *it),
+                   "docs/MANUAL.md, Images")
     for number, (data, said) in enumerate(FINDINGS, 1):
         yield Case(f"finding {number}: {said[:40]}", lambda d=data, s=said: is_found(setup, d, s), "docs/FORMATS.md")
     for words, script, said in REJECTED:

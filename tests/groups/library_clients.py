@@ -1,4 +1,5 @@
-"""The library for C and Python: its answers and posts are those of the program; the examples; memory that runs out; calls at random.
+"""The library for C and Python: its answers and posts are those of the program; the examples; memory that runs out; calls at
+random.
 
 `tests/library/driver.py` carries scripts and scenarios out through the Python package. All stored and made scenarios, stored
 scripts, and jobs at random are compared with what the program prints, and media with what it saves. Images at fault are judged as
@@ -177,7 +178,8 @@ def are_loaded(name_of, texts):
     with tempfile.TemporaryDirectory(dir=images.in_memory(sum(map(len, texts)))) as folder:
         for number, image in enumerate(texts):
             images.write(f"{folder}/{number}", image)
-        ran = run([sys.executable, "-B", DRIVER, "load", *map(str, range(len(texts)))], cwd=folder, timeout=600, env=without_words())
+        ran = run([sys.executable, "-B", DRIVER, "load", *map(str, range(len(texts)))], cwd=folder, timeout=600,
+                  env=without_words())
         said = dict(re.findall(r"(?m)^(\d+): (.*)$", ran.out))
         require((ran.status, ran.err, len(said)) == (0, "", len(texts)), f"{name_of}: an image is not judged", ran)
         for number, image in enumerate(texts):
@@ -321,7 +323,8 @@ def costs_little():
     built = compiled("gcc", REQUESTS, "measured", "-O2")
     book, site = (instructions(lambda count, it=it: [speed, count, f"{it} cycles"]) for it in ("book", "site"))
     events, served = (instructions(lambda count, it=it: [built, it, count]) for it in ("events", "serve"))
-    text = f"instructions of a request: {events:.0f} by events, {served:.0f} by excp_serve; a site cycle has {site:.0f}, a book cycle {book:.0f}"
+    text = f"instructions of a request: {events:.0f} by events, {served:.0f} by excp_serve"
+    text = f"{text}; a site cycle has {site:.0f}, a book cycle {book:.0f}"
     require(max(events, served) <= MOST_TIMES * site, f"{text}; at most {MOST_TIMES} times those of a site")
     return text
 
@@ -337,7 +340,8 @@ def unit_tests_pass():
 
 def example_passes():
     needs()
-    ends_well([sys.executable, "-B", EXAMPLE], "".join(f"{it}: passed\n" for it in re.findall(r"^def (test_\w+)", read(EXAMPLE), re.M)))
+    ends_well([sys.executable, "-B", EXAMPLE],
+              "".join(f"{it}: passed\n" for it in re.findall(r"^def (test_\w+)", read(EXAMPLE), re.M)))
 
 
 def is_installed(*how):

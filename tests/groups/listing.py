@@ -1,12 +1,11 @@
 """Listings: `report --listing` prints a script with its areas in symbols, of which `assemble` makes the same script again.
 
-- A listing of each stored script that is not rejected, and of each sample, comes back to the same areas and the same other lines. What
-  comes of a sample prints its posts.
-- So do listings of programs at random, with valid and odd IOBs, CCWs and data.
-- `tests/cases/listing/*.listing` has scripts and their listings, written by hand. A job in symbols is listed as it is written.
-- `tests/cases/listing/*.steps` has jobs in symbols and their reports with steps. So have the samples: but for their names they are
-  those of the plain scripts, and each CCW has a line of the job with its mnemonic.
-- A job in symbols has the names and lines of its addresses, and the areas of its requests, as they are written in MAPPED and NAMES.
+- A listing of each stored script that is not rejected, and of each sample, comes back to the same areas and the same other lines.
+What comes of a sample prints its posts. - So do listings of programs at random, with valid and odd IOBs, CCWs and data. -
+`tests/cases/listing/*.listing` has scripts and their listings, written by hand. A job in symbols is listed as it is written. -
+`tests/cases/listing/*.steps` has jobs in symbols and their reports with steps. So have the samples: but for their names they are
+those of the plain scripts, and each CCW has a line of the job with its mnemonic. - A job in symbols has the names and lines of its
+addresses, and the areas of its requests, as they are written in MAPPED and NAMES.
 """
 
 import glob

@@ -102,7 +102,8 @@ MUTANTS = {
 
 def searched(model, size, *, ends=True, level="-O2"):
     """What spin prints of a search of all states: for orders in which the run does not end, or for states in which no thread goes
-    on. It searches them all, or stops at the first fault. The compiler takes longer than a search of few states: `level` is for that."""
+    on. It searches them all, or stops at the first fault. The compiler takes longer than a search of few states: `level` is for
+    that."""
     with tempfile.TemporaryDirectory(prefix="models-") as room:
         with open(f"{room}/wakes.pml", "w", encoding="utf-8") as it:
             it.write(model)
@@ -123,8 +124,8 @@ def counts(ran):
 
 
 def holds(size):
-    """All states are searched: a run ends in each order in which each thread gets its turns. For most sizes a second search says too
-    that until then some thread goes on; the first finds that as well, but says less."""
+    """All states are searched: a run ends in each order in which each thread gets its turns. For most sizes a second search says
+    too that until then some thread goes on; the first finds that as well, but says less."""
     texts = []
     for ends in (True,) if size.alarm or size.polls else (True, False):
         ran = searched(read(MODEL), size, ends=ends)

@@ -151,7 +151,8 @@ def rejected_by_test(name, edit, tests, test):
     is_told = re.search(r"\berror[\[:]", said)
     require(has_run or is_told, f"NOT TRIED: {tests} ended with no error and no test, as if it was killed: run this again", ran)
     require(has_run, f"BAD EDIT: {test} of {tests} did not run", ran)
-    require(re.search(rf"^test (\S+::)?{re.escape(test)} \.\.\. FAILED", said, re.M), f"NOT REJECTED: {test} of {tests} passes", ran)
+    require(re.search(rf"^test (\S+::)?{re.escape(test)} \.\.\. FAILED", said, re.M), f"NOT REJECTED: {test} of {tests} passes",
+            ran)
     return time.monotonic() - begun, ENDLESS if "no-answer: the program did not end" in said else ""
 
 
@@ -224,7 +225,8 @@ def numbers_rejected(name):
     kept = kept_work(rt, crate)
     begun = time.monotonic()
     counts = [
-        worked.judged(read(f"{crate.folder}/{path}"), path, lambda text, p=path: rt.checked(crate, {p: text}, ["--jobs", "1"], kept))
+        worked.judged(read(f"{crate.folder}/{path}"), path,
+                      lambda text, p=path: rt.checked(crate, {p: text}, ["--jobs", "1"], kept))
         for path in worked.files_of(crate.folder)
     ]
     theorems, changes = map(sum, zip(*counts))

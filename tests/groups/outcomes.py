@@ -1,8 +1,8 @@
 """Every outcome of a job (`excp outcomes`, docs/MANUAL.md).
 
-Jobs whose outcomes follow by hand from docs/SPECIFICATION.md have just these. Of small jobs at random, no run by a seed and no run on
-threads posts anything else. The scenario of each outcome comes to its post when `step` carries it out. Every sample is searched to
-its end.
+Jobs whose outcomes follow by hand from docs/SPECIFICATION.md have just these. Of small jobs at random, no run by a seed and no run
+on threads posts anything else. The scenario of each outcome comes to its post when `step` carries it out. Every sample is searched
+to its end.
 """
 
 import glob
@@ -53,12 +53,14 @@ WAITED = "48 000000 0000 0000 0000 -"
 RELATED = DISK + OPEN + area(0, "40", "09") + area(1, "40", "01") + EXCP.format(0, 0) + EXCP.format(1, 1)
 FAILED = "41 001038 0E00 0005 0008 -"
 
-# Two DCBs. A related request to the first one finds no record, and then its task closes the second one. Another task waits for each of two
-# requests to the second one, resets the first one, and issues a related request to it. If both that it waits for were posted on
-# arrival, the second of them arrived after the request that finds no record. It may have been posted before that one was started: then
-# the reset comes before the error.
-EARLY_RESET = (DISK + OPEN * 2 + area(0, "40", "09") + area(1, "40", "01") + area(2, "42", "01").replace("0000103000000001", "0000103000000002")
-               + EXCP.format(0, 0) + "close 0 0 2\n" + "excp 1 0 2 001000 2 001000 0\nwait 1\n" * 2 + "reset 1 0 1\n" + EXCP.format(1, 1))
+# Two DCBs. A related request to the first one finds no record, and then its task closes the second one. Another task waits for each
+# of two requests to the second one, resets the first one, and issues a related request to it. If both that it waits for were posted
+# on arrival, the second of them arrived after the request that finds no record. It may have been posted before that one was
+# started: then the reset comes before the error.
+EARLY_RESET = (DISK + OPEN * 2
+               + area(0, "40", "09") + area(1, "40", "01") + area(2, "42", "01").replace("0000103000000001", "0000103000000002")
+               + EXCP.format(0, 0) + "close 0 0 2\n" + "excp 1 0 2 001000 2 001000 0\nwait 1\n" * 2 + "reset 1 0 1\n"
+               + EXCP.format(1, 1))
 
 # A job with its options, and the outcomes of each request, worked by hand.
 BY_HAND = {
@@ -72,25 +74,28 @@ BY_HAND = {
     # A related request that finds no record, and one of another task to the same DCB: that ends well only if it arrives first.
     "a related error": (RELATED, (), {"0 0 1": {FAILED}, "1 0 1": {ENDED, WAITED}}),
     # Two related requests that find no record: the second one is started only if it arrives after the reset.
-    "a reset": (DISK + OPEN + area(0, "40", "09") + EXCP.format(0, 0) * 2 + "reset 0 0 1\n", (), {"0 0 1": {FAILED}, "0 0 2": {FAILED, WAITED}}),
-    "a reset before an error": (EARLY_RESET, (), {"0 0 1": {FAILED}, "1 0 1": {ENDED, WAITED}, "1 0 2": {ENDED, WAITED}, "1 0 3": {ENDED, WAITED}}),
+    "a reset": (DISK + OPEN + area(0, "40", "09") + EXCP.format(0, 0) * 2 + "reset 0 0 1\n", (),
+                {"0 0 1": {FAILED}, "0 0 2": {FAILED, WAITED}}),
+    "a reset before an error": (EARLY_RESET, (),
+                                {"0 0 1": {FAILED}, "1 0 1": {ENDED, WAITED}, "1 0 2": {ENDED, WAITED}, "1 0 3": {ENDED, WAITED}}),
     # An error that is tried again, and a close: a request that is active stays so.
-    "a close": (DISK + "fault 0 1 0E 00 1000\n" + OPEN + PLAIN + EXCP.format(0, 0) + "close 1 0 1\n", (), {"0 0 1": {ENDED, WAITED}}),
+    "a close": (DISK + "fault 0 1 0E 00 1000\n" + OPEN + PLAIN + EXCP.format(0, 0) + "close 1 0 1\n", (),
+                {"0 0 1": {ENDED, WAITED}}),
 }
 
-# Jobs of tests/cases/outcomes, each with an outcome that a search loses if it saves too much: the options, the request and its post.
-# A program that writes a record and restores it is halted between its writes, and another one reads the record. A request arrives at
-# an idle unit before one that is posted on arrival, and is purged before it is started; so a later one reads the first block. Of two
-# requests on their way to a printer, the later one by its number is taken first, and meets a fault.
+# Jobs of tests/cases/outcomes, each with an outcome that a search loses if it saves too much: the options, the request and its
+# post. A program that writes a record and restores it is halted between its writes, and another one reads the record. A request
+# arrives at an idle unit before one that is posted on arrival, and is purged before it is started; so a later one reads the first
+# block. Of two requests on their way to a printer, the later one by its number is taken first, and meets a fault.
 SELDOM = {
     "halted-between-writes": (("--turn", "1"), "2 0 1", "7F 0010A0 0C00 0000 0000 AAAAAAAA"),
     "arrival-before-doomed": ((), "1 0 3", "7F 0010D0 0C00 0000 0000 B0"),
     "taken-in-another-order": (("--turn", "2"), "1 0 1", "41 001040 0E00 0001 4000 0000"),
 }
 
-# Two tapes, of each of which the first request reads the block 01 and the second the block 02. Task 0 issues to both; task 1 issues to
-# the second one, waits, and issues to the first. So if task 0 is first at the second tape, it is first at the first one too: of the
-# four outputs there are three. An order of a whole row that is chosen too early loses one.
+# Two tapes, of each of which the first request reads the block 01 and the second the block 02. Task 0 issues to both; task 1 issues
+# to the second one, waits, and issues to the first. So if task 0 is first at the second tape, it is first at the first one too: of
+# the four outputs there are three. An order of a whole row that is chosen too early loses one.
 TAPES = """tasks 2
 tape 0 0 60
 block 0 01
@@ -100,7 +105,8 @@ block 1 01
 block 1 02
 open 0 in
 open 1 in
-area 0 001000 4200000000001028 0000000000000000 0000103000000001 0000000000000000 0000000000000000 0000000000000000 0200103820000001 00
+area 0 001000 4200000000001028 0000000000000000 0000103000000001 0000000000000000 0000000000000000 0000000000000000 \
+0200103820000001 00
 excp 0 0 1 001000 0 001038 1
 excp 0 1 1 001000 0 001038 1
 excp 1 1 1 001000 0 001038 1
@@ -115,21 +121,23 @@ def read_by(first, second):
     return {"0 0 1": post(first), "0 1 1": post(second), "1 0 1": post(3 - first), "1 1 1": post(3 - second)}
 
 
-# Three tapes. Task 2 purges each of them once. Task 0 issues to the second tape and then to the first; task 1 to the third and then to
-# the first. The purge of the first tape meets both later requests only if both tasks issued to the other tapes before: then all four
-# requests may wait when they are purged.
+# Three tapes. Task 2 purges each of them once. Task 0 issues to the second tape and then to the first; task 1 to the third and then
+# to the first. The purge of the first tape meets both later requests only if both tasks issued to the other tapes before: then all
+# four requests may wait when they are purged.
 WRITE = ("area 0 001000 4200000000001028 0000000000000000 0000103000000001 0000000000000000 0000000000000000 0000000000000000 "
          "0100103820000002 A1A1\n")
 THREE = ("tasks 3\ntape 0 0 60\ntape 1 1 60\ntape 2 2 60\n" + "".join(f"open {unit} out\n" for unit in range(3)) + WRITE
          + "".join(f"{it} 001000 0 001038 2\n" for it in ("excp 0 1 1", "excp 0 0 1", "excp 1 2 1", "excp 1 0 1"))
-         + "".join(f"purge 2 {unit} 1 quiesce\n" for unit in range(3)) + "".join(f"excp 2 {unit} 1 001000 0 001038 2\n" for unit in (1, 2)))
+         + "".join(f"purge 2 {unit} 1 quiesce\n" for unit in range(3)) + "".join(f"excp 2 {unit} 1 001000 0 001038 2\n"
+                                                                                 for unit in (1, 2)))
 WRITTEN = "7F 001038 0C00 0000 0000 A1A1"
 PURGED = "48 000000 0000 0000 0000 A1A1"
 ALL_PURGED = {"0 0 1": PURGED, "0 1 1": PURGED, "1 0 1": PURGED, "1 2 1": PURGED, "2 1 1": WRITTEN, "2 2 1": WRITTEN}
 
 # A program of no-operations. With turns of one command, a halt meets it before each of them. It may also wait, or have ended.
 NO_OPERATIONS = 110
-MANY = (DISK + OPEN + "area 0 001000 4200000000001028 0000000000000000 0000103000000001 0000000000000000 0000000000000001 0000000000000000"
+MANY = (DISK + OPEN
+        + "area 0 001000 4200000000001028 0000000000000000 0000103000000001 0000000000000000 0000000000000001 0000000000000000"
         + " 0300000060000001" * (NO_OPERATIONS - 1) + " 0300000020000001\n" + EXCP.format(0, 0) + "purge 1 0 1 halt\n")
 OUTCOMES_OF_MANY = NO_OPERATIONS + 2
 
@@ -300,7 +308,8 @@ def is_cut(setup):
     """A search that ends early says so."""
     script = DISK + OPEN + PLAIN + EXCP.format(0, 0) * 3 + "purge 1 0 1 halt\n" + EXCP.format(1, 0) * 2
     _, last = outcomes_of(setup, script, "--most-states", "2")
-    require(re.match(r"not all: (at least [1-9]\d* requests? ha(s|ve) more than one outcome|no request has more than one outcome so far) "
+    require(re.match(r"not all: (at least [1-9]\d* requests? ha(s|ve) more than one outcome|"
+                     r"no request has more than one outcome so far) "
                      r"\(turns of 64 commands, \d+ states, ended by --most-states\)$", last),
             f"the last line is {last!r}")
 
@@ -328,7 +337,8 @@ def prints_chosen(setup):
     with tempfile.TemporaryDirectory() as folder:
         outcomes_of(setup, script, "--scenarios", folder)
         for number in range(1, 4):
-            expect(setup.run("outcomes", "--outcome", "0", "0", "1", str(number), script=script), (0, read(f"{folder}/post-0-0-1-{number}.scenario")))
+            expect(setup.run("outcomes", "--outcome", "0", "0", "1", str(number), script=script),
+                   (0, read(f"{folder}/post-0-0-1-{number}.scenario")))
     for task, unit, request, number in (0, 0, 1, 0), (0, 0, 1, 4), (0, 0, 2, 1), (1, 0, 1, 1), (0, 1, 1, 1), (70000, 0, 1, 1):
         ran = setup.run("outcomes", "--outcome", *map(str, (task, unit, request, number)), script=script)
         expect(ran, (1, "", f"excp: no outcome {number} of request {request} of task {task} to unit {unit} was found\n"))
@@ -340,8 +350,8 @@ CHANGES = "# its request has one outcome with these changes:"
 WAIT = re.compile(r"#   before line (\d+): (wait \d+)")
 MOVE = re.compile(r"#   line (\d+): task (\d+) in place of (\d+)")
 
-# How many small jobs have their hints tried, and how many of these have one at least. How many jobs are changed by one hint after the
-# other, and how many of these are deterministic then.
+# How many small jobs have their hints tried, and how many of these have one at least. How many jobs are changed by one hint after
+# the other, and how many of these are deterministic then.
 HINTED = 60
 HINTS = 20
 FOLLOWED = 30
@@ -396,8 +406,8 @@ def outcomes_in(told):
 
 
 def hints_hold(setup):
-    """What a hint says makes one outcome of the request above it. All requests have fewer outcomes together then, so that no hints go
-    in a circle; and each that could end without error still can."""
+    """What a hint says makes one outcome of the request above it. All requests have fewer outcomes together then, so that no hints
+    go in a circle; and each that could end without error still can."""
     tried = 0
     for seed in range(HINTED):
         script = small_job(seed, tasks=3, units=2, requests=5, controls=3)
@@ -458,28 +468,32 @@ def shares_are_counted(setup):
     script, _, wanted = BY_HAND["a halt"]
     ran = setup.run("outcomes", "--often", "60", script=script)
     lines = ran.out.splitlines()
-    require((ran.status, ran.err) == (5, "") and lines[-1] == "60 runs by seeds; the shares are no probabilities of threads", "another end", ran)
+    require((ran.status, ran.err) == (5, "") and lines[-1] == "60 runs by seeds; the shares are no probabilities of threads",
+            "another end", ran)
     count = 0
     for share, post in zip(lines[:-1:2], lines[1:-1:2]):
         told = re.fullmatch(r"# in (\d+) of 60 runs, first by seed (\d+)", share)
         name, end = numbers_and_post(post)
         require(told and name == "0 0 1" and end in wanted[name], f"{share!r}, {post!r}", ran)
-        require(post in setup.run("report", "--posts", "--seed", told[2], script=script).out.splitlines(), f"seed {told[2]} posts another one", ran)
+        require(post in setup.run("report", "--posts", "--seed", told[2], script=script).out.splitlines(),
+                f"seed {told[2]} posts another one", ran)
         count += int(told[1])
     require(count == 60, f"{count} posts", ran)
 
 
 # Six tasks read ten blocks each from one tape, in any order.
-LONG = ("tasks 6\ntape 0 0 1200\n" + "block 0 01\n" * 60 + "open 0 in\narea 0 001000 4200000000001028 0000000000000000 0000103000000001 "
-        + "0000000000000000 0000000000000000 0000000000000000 0200103820000001 00\n" + "".join(f"excp {n % 6} 0 1 001000 0 001038 1\n" for n in range(60)))
+LONG = ("tasks 6\ntape 0 0 1200\n" + "block 0 01\n" * 60
+        + "open 0 in\narea 0 001000 4200000000001028 0000000000000000 0000103000000001 "
+        + "0000000000000000 0000000000000000 0000000000000000 0200103820000001 00\n"
+        + "".join(f"excp {n % 6} 0 1 001000 0 001038 1\n" for n in range(60)))
 
 
 # A request and a halt, and many more of such requests.
 FEW = DISK + OPEN + PLAIN + EXCP.format(0, 0) + "purge 1 0 1 halt\n"
 READS, MORE_READS = (DISK + OPEN + PLAIN + EXCP.format(0, 0) * count + "purge 1 0 1 halt\n" for count in (30, 500))
 
-# If eight such requests meet a halt, some have ended, one may be active, some may wait, and the others come later. So the outputs are
-# one in which all end, and for each of the two, the places of those that are halted or purged.
+# If eight such requests meet a halt, some have ended, one may be active, some may wait, and the others come later. So the outputs
+# are one in which all end, and for each of the two, the places of those that are halted or purged.
 EIGHT = DISK + OPEN + PLAIN + EXCP.format(0, 0) * 8 + "purge 1 0 1 halt\n"
 OUTPUTS_OF_EIGHT = 1 + 2 * (8 * 9 // 2)
 
@@ -490,7 +504,8 @@ def is_ended(setup):
         begun = time.monotonic()
         ran = setup.run("outcomes", "--most-seconds", "2", *words, script=script)
         last = (ran.out.splitlines() or [""])[-1]
-        require(ran.status == 6 and last.endswith(", ended by --most-seconds)") and time.monotonic() - begun < 30, f"the last line is {last!r}")
+        require(ran.status == 6 and last.endswith(", ended by --most-seconds)") and time.monotonic() - begun < 30,
+                f"the last line is {last!r}")
         counted = re.search(r"^# and \d+ more requests?, for which --most-seconds left no time$", ran.out, re.M)
         require(script == LONG or counted, "what was left out is not counted", ran)
 

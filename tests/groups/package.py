@@ -1,6 +1,7 @@
 """The package python/excp: its words end without a traceback for any input, need no library, and are code of our form.
 
-The inputs are stored scripts with bytes, words and lines changed, lines put together from words of the grammar, and bytes at random.
+The inputs are stored scripts with bytes, words and lines changed, lines put together from words of the grammar, and bytes at
+random.
 """
 
 import ast
@@ -58,8 +59,8 @@ def judge_text(text):
 
 
 def look_up(symbols, assembled, is_rejected):
-    """Looks up addresses in and around each area of a job, and lists it. The listing of a job that is not rejected is assembled to the
-    same script."""
+    """Looks up addresses in and around each area of a job, and lists it. The listing of a job that is not rejected is assembled to
+    the same script."""
     found = symbols.source_map.source_map(assembled)
     for area in found.areas:
         for address in range(area.base - 1, area.base + 100):
@@ -95,8 +96,9 @@ def changed(chance, text):
 
 # What is put in place of words: signs of symbols, numbers at limits, and odd bytes.
 SIGNS = (
-    b"' , ; : + - * # = X' C' CA' L' X'' '' X'1' C'A fill endarea area all tracks key data at + +1 -1 *+8 L'L L'* 0 1 63 64 65535 65536 "
-    b"4294967295 4294967296 99999999999 X'FFFFFF' FFFFFF FFFFFE 00000000000000000000000000000000 DC DS 0D ORG IOB ECB TIC CCW SIDE IDAW "
+    b"' , ; : + - * # = X' C' CA' L' X'' '' X'1' C'A fill endarea area all tracks key data at + +1 -1 *+8 L'L L'* 0 1 63 64 65535 "
+    b"65536 4294967295 4294967296 99999999999 X'FFFFFF' FFFFFF FFFFFE 00000000000000000000000000000000 DC DS 0D ORG IOB ECB TIC "
+    b"CCW SIDE IDAW "
     b"CCHHR COUNT seek= ecb= dcb= extent= related L: L0: CD CC+SLI \x00 \r \t \xff \xef\xbb\xbf \xc3\xa9"
 ).split(b" ") + [b"", b" ", b"\n", b"\r\n"]
 
@@ -154,7 +156,8 @@ def is_one_line(setup, *words):
 def suggests(word, due):
     """A first word that is neither a word nor a file is rejected, and a word that is near to it is named."""
     ran = started(word, stdout=subprocess.DEVNULL, stdin=subprocess.DEVNULL)
-    require((ran.returncode, ran.stderr) == (1, f"excp: {word}: there is no such file, and no such subcommand; {due}\n".encode()), f"another text: {ran.stderr!r}")
+    require((ran.returncode, ran.stderr) == (1, f"excp: {word}: there is no such file, and no such subcommand; {due}\n".encode()),
+            f"another text: {ran.stderr!r}")
 
 
 def needs_no_library():

@@ -36,7 +36,8 @@ HEIGHT = 9000
 ORIGIN = "docs/REPORT.md and docs/MANUAL.md"
 
 # Texts that HTML could take for something else, in pieces of 64 characters.
-HOSTILE = """<script>alert(1)</script> "'><img src=x onerror=alert(2)> &lt; &# </pre></section><b id=hostile onclick='alert(3)'>bold</b>
+HOSTILE = """<script>alert(1)</script> "'><img src=x onerror=alert(2)> &lt; &# </pre></section>\
+<b id=hostile onclick='alert(3)'>bold</b>
 --> ]]> <!-- <style>*{display:none}</style> <a href='javascript:x'> ${1} `x` </title></svg><svg onload=alert(4)>
 <meta http-equiv=refresh content=0><base href=//x> \x00\x01\x07\x1b[31m\x7f\t <input autofocus onfocus=alert(5)>"""
 
@@ -47,14 +48,15 @@ MEANINGS = str.maketrans("<>&\"'", "abcde")
 IOB = "42000000" "00001028" "0000000000000000" "00001030" "00000001" + "00" * 16
 
 # The IOBs and programs of GONE.
-GONE_AREA = ("42000000000010A00000000000000000000010A8000000010000000000000000000000000000000042000000000010A00000000000000000000010C8"
-         "000000010000000000000000000000000000000042000000000010A00000000000000000000010E00000000100000000000000000000000000000000"
-         "42000000000010A00000000000000000000010F8000000010000000000000000000000000000000000000000000000003100112D40000005080010A8"
-         "00000000060011434000000206001143000000023100112840000005080010C8000000001D0011370000000C3100113240000005080010E000000000"
-         "060011430000000202001143400000040200114340000004020011434000000427000000400000012700000040000001010011370000000600000000"
-         "02000000000300000000040000000007000004E6E7E8E90000000000000000")
+GONE_AREA = ("42000000000010A00000000000000000000010A8000000010000000000000000000000000000000042000000000010A00000000000000000"
+             "000010C8000000010000000000000000000000000000000042000000000010A00000000000000000000010E0000000010000000000000000"
+             "000000000000000042000000000010A00000000000000000000010F800000001000000000000000000000000000000000000000000000000"
+             "3100112D40000005080010A800000000060011434000000206001143000000023100112840000005080010C8000000001D0011370000000C"
+             "3100113240000005080010E00000000006001143000000020200114340000004020011434000000402001143400000042700000040000001"
+             "270000004000000101001137000000060000000002000000000300000000040000000007000004E6E7E8E90000000000000000")
 
-# Reads records 3 and 4 of a track, and the blocks 1 to 3 of a tape. Then record 7 comes after record 2, and block 2 is written anew.
+# Reads records 3 and 4 of a track, and the blocks 1 to 3 of a tape. Then record 7 comes after record 2, and block 2 is written
+# anew.
 GONE = f"""tasks 1
 disk 0 0 1 1 200
 rec 0 0 0 1 - C1C1
@@ -167,7 +169,8 @@ def with_bytes(data):
     ccws = "".join(f"09{0x1100 + 64 * place:06X}{0x40 if piece is not pieces[-1] else 0:02X}00{len(piece) // 2:04X}"
                    for place, piece in enumerate(pieces))
     gap = "00" * (0x1100 - 0x1030 - len(ccws) // 2)
-    lines = ["tasks 1", "printer 0 0 40 2", "disk 1 1 1 1 4000", f"rec 1 0 0 1 {pieces[0]} {whole}", "tape 2 2 4096", f"block 2 {whole}"]
+    lines = ["tasks 1", "printer 0 0 40 2", "disk 1 1 1 1 4000", f"rec 1 0 0 1 {pieces[0]} {whole}", "tape 2 2 4096",
+             f"block 2 {whole}"]
     lines += [line for piece in pieces for line in (f"block 2 {piece}", "mark 2")]
     lines += [f"rec 1 0 0 {2 + place} - {piece}" for place, piece in enumerate(pieces)]
     lines += ["open 0 out", f"area 0 001000 {IOB}{'00' * 8}{ccws}{gap}{whole}", f"excp 0 0 1 001000 0 001100 {len(data)}", "wait 0"]
@@ -374,7 +377,8 @@ wait 0
 HINTS = """(async () => {
   const frame = () => new Promise(done => requestAnimationFrame(() => requestAnimationFrame(done)));
   const tip = document.querySelector('.tip');
-  const point = () => document.querySelector('.drawing .bar .run').dispatchEvent(new PointerEvent('pointermove', {bubbles: true, clientX: 300, clientY: 300}));
+  const move = () => new PointerEvent('pointermove', {bubbles: true, clientX: 300, clientY: 300});
+  const point = () => document.querySelector('.drawing .bar .run').dispatchEvent(move());
   const lanes = document.querySelector('.scroller');
   const key = (name) => lanes.dispatchEvent(new KeyboardEvent('keydown', {key: name, bubbles: true}));
   const moves = {
@@ -406,8 +410,9 @@ CLOSED = """new Promise(done => {
 })"""
 
 # The colours of waits, and of bars.
-COLOURS = """['.drawing .wait', '.legend .wait', '.drawing .run'].map(name => [...new Set([...document.querySelectorAll(name)].map(it =>
-  name.endsWith('wait') ? getComputedStyle(it).stroke : it.closest('.bar').className.baseVal))])"""
+COLOURS = """['.drawing .wait', '.legend .wait', '.drawing .run'].map(name => [...new Set(
+  [...document.querySelectorAll(name)].map(it => name.endsWith('wait')
+    ? getComputedStyle(it).stroke : it.closest('.bar').className.baseVal))])"""
 
 
 def keeps_blanks_and_hides_hints(setup):
@@ -452,7 +457,8 @@ def docks_its_panel(setup):
         it.open(file, "#q0-0-5", width=400, height=900)
         narrow = it.value(DOCKED)
         box = narrow["left"], narrow["right"], narrow["bottom"], narrow["wide"]
-        require(box == (0, 400, 900, 400) and narrow["top"] > 300 and not narrow["isCut"], f"at 400 pixels the panel is at {narrow}")
+        require(box == (0, 400, 900, 400) and narrow["top"] > 300 and not narrow["isCut"],
+                f"at 400 pixels the panel is at {narrow}")
 
 
 # Of each lane whether all of it is in the window, and the height of its first bar; and how many lanes have a label.
@@ -475,11 +481,13 @@ def shows_all_lanes(setup):
     with tempfile.TemporaryDirectory() as folder, browser.Browser() as it:
         it.open(written(folder, page_of(setup, "report", "--html", script=many_lanes())), width=1280, height=900)
         lanes, labels = it.value(LANES)
-        require(len(lanes) == 128 and all(is_seen and high >= 2 for is_seen, high in lanes), f"the first screen has the lanes {lanes}")
+        require(len(lanes) == 128 and all(is_seen and high >= 2 for is_seen, high in lanes),
+                f"the first screen has the lanes {lanes}")
         require(labels >= 32, f"only {labels} lanes have labels")
         it.value("document.querySelector('button[aria-pressed=false]:not(.filters *)').click()")
         lanes, labels = it.value(f"new Promise(done => setTimeout(() => done({LANES}), 100))")
-        require(labels == 128 and len(lanes) < 128 and lanes[0][1] == 16, f"tall lanes have {labels} labels, and bars as in {lanes[:3]}")
+        require(labels == 128 and len(lanes) < 128 and lanes[0][1] == 16,
+                f"tall lanes have {labels} labels, and bars as in {lanes[:3]}")
         require(not it.said, f"on the console: {it.said[:3]}")
 
 
@@ -504,7 +512,8 @@ SOURCE_ROWS = [["2", "001030", "CP", "SIDE ID,L'ID,CC", "8"], ["1", "001038", ""
                ["1", "001040", "", "RD BUFFER,4,CC", "10"], ["1", "001048", "MORE", "DC C'</script'", "11"],
                ["·", "001050", "ID", "CCHHR 0,0,1", "12"]]
 
-# The cells of the pane; the first label and operand in the steps; and what is lit after the pointer is at a step, and at a row of the pane.
+# The cells of the pane; the first label and operand in the steps; and what is lit after the pointer is at a step, and at a row of
+# the pane.
 PANE = """(() => {
   const at = (place) => place.dispatchEvent(new PointerEvent('pointerover', {bubbles: true}));
   const lit = (names) => [...document.querySelectorAll(names)].filter(it => it.matches('.pointed')).map(it => it.dataset.at);
@@ -513,7 +522,8 @@ PANE = """(() => {
   at(step.cells[1]);
   const byStep = lit('.pane tr');
   at(rows[2]);
-  return [rows.map(row => [...row.cells].map(it => it.textContent)), step.cells[0].textContent, step.cells[3].textContent, byStep, lit('.steps tr')];
+  const texts = rows.map(row => [...row.cells].map(it => it.textContent));
+  return [texts, step.cells[0].textContent, step.cells[3].textContent, byStep, lit('.steps tr')];
 })()"""
 
 
@@ -531,8 +541,8 @@ def shows_its_source(setup):
         require(not it.said, f"on the console: {it.said[:3]}")
 
 
-# Searches that find no record: for keys that are longer than what a step shows, one of one CCW and one of a data chain; and for an ID
-# with the skip flag, which counts for no search.
+# Searches that find no record: for keys that are longer than what a step shows, one of one CCW and one of a data chain; and for an
+# ID with the skip flag, which counts for no search.
 SEARCHES = """tasks 1
 disk 0 0 1 1 1000
 rec 0 0 0 1 key C'SYS1.PROCLIB.OLD' fill 44 data C'F1'
@@ -568,15 +578,16 @@ COMPARED = """(() => {
   const {right} = panel.querySelector('.content').getBoundingClientRect();
   const rights = [...panel.querySelectorAll('.content *')].map(it => it.getBoundingClientRect().right);
   const wide = [panel, ...panel.querySelectorAll('.wide-table, .compare')].map(it => it.scrollWidth - it.clientWidth);
-  const marks = [...panel.querySelectorAll('.compare tr')].map(row => [...row.querySelectorAll('mark')].map(it => it.textContent).join(''));
+  const marked = row => [...row.querySelectorAll('mark')].map(it => it.textContent).join('');
+  const marks = [...panel.querySelectorAll('.compare tr')].map(marked);
   return [panel.querySelector('.compare p').textContent, marks,
     Math.round(Math.max(0, ...wide, ...rights.map(it => it - right)))];
 })()"""
 
 
 def compares_what_it_knows(setup):
-    """The panel of a search that found no record says whether the JSON has all that it looked for, and marks no byte beyond that. Long
-    keys are whole in it."""
+    """The panel of a search that found no record says whether the JSON has all that it looked for, and marks no byte beyond that.
+    Long keys are whole in it."""
     old, wanted = ("SYS1.PROCLIB.OLD".encode("cp037"), "SYS1.LINKLIB.NEW".encode("cp037"))
     blanks = "SYS1.LINKLIB".encode("cp037").ljust(16, b"\x40")
     differing = ["".join(f"{one:02X}" for one, other in zip(key, wanted) if one != other) for key in (old, blanks)]
@@ -794,7 +805,8 @@ def stays_text(setup):
         for code in "cp037", "ascii":
             shapes = []
             for text in HOSTILE.replace("\n", " ").translate(MEANINGS), HOSTILE.replace("\n", " "):
-                it.open(written(folder, page_of(setup, "report", "--html", script=with_bytes(text.encode(code, "replace")))), "#q0-0-1")
+                it.open(written(folder, page_of(setup, "report", "--html", script=with_bytes(text.encode(code, "replace")))),
+                        "#q0-0-1")
                 shapes.append(it.value(SHAPE))
                 require(not it.said, f"on the console: {it.said[:3]}")
             require(shapes[0]["tags"] == shapes[1]["tags"], f"hostile bytes in {code} make other elements")

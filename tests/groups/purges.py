@@ -49,7 +49,8 @@ TWO_READS = f"""tasks 2
 disk 0 0 1 1 40
 rec 0 0 0 1 - C1C2C3C4
 open 0 out 18000000000000000000000000000001
-area 0 001000 {IOB} 3100105040000005 0800103000000000 0600106000000004 0000000000000000 0000000001000000 0000000000000000 0000000000000000
+area 0 001000 {IOB} 3100105040000005 0800103000000000 0600106000000004 0000000000000000 \
+0000000001000000 0000000000000000 0000000000000000
 excp 1 0 1 001000 0 001060 4
 excp 1 0 1 001000 0 001060 4
 purgetask 0 1 halt
@@ -70,8 +71,8 @@ CLOSED = "its DCB was closed"
 NOT_OPEN = "its DCB is not open"
 ERROR = "a related request ended in error"
 
-# A post in a history: the request, its completion code, and the reason where it was not started. tests/groups/random.py judges words
-# on status and sense, and on ends after a start.
+# A post in a history: the request, its completion code, and the reason where it was not started. tests/groups/random.py judges
+# words on status and sense, and on ends after a start.
 POST = re.compile(r"task (\d+ request \d+) posted (..), CSW .{16}, sense .{4}(?:: .*?)?"
                   r"(?:, halted|, not tried again: purged|, not started: (.*))?")
 

@@ -116,7 +116,8 @@ def is_killed_whole(ran, _text):
     that is left has its documented name."""
     right = {**IMAGES, **{SAVED[name]: data for name, data in IMAGES.items()}}
     left = {f"{name}.excp-new" for name in SAVED.values()}
-    is_whole = IMAGES.items() <= ran.files.items() and all(right.get(name) == data for name, data in ran.files.items() if name not in left)
+    is_whole = IMAGES.items() <= ran.files.items() and all(right.get(name) == data for name, data in ran.files.items()
+                                                           if name not in left)
     if ran.status not in KILLED or not is_whole:
         return None
     return "killed, with a new file left" if left & ran.files.keys() else "killed"
@@ -281,7 +282,8 @@ def programs(setup):
         yield plan("run", prints_all_or_nothing, STORED, POSTS, *words)
         name, it = plan("run", prints_nothing, STORED, POSTS, *words, kind="lasting")
         yield f"{name}: each later growth fails too", it
-    name, it = plan("run", prints_all_or_nothing, STORED, POSTS, "--channels", "4", "--handlers", "3", kind="thread", calls=4, least=2)
+    workers = "--channels", "4", "--handlers", "3"
+    name, it = plan("run", prints_all_or_nothing, STORED, POSTS, *workers, kind="thread", calls=4, least=2)
     yield f"{name}: threads", it
     # the groups histories, reports and pages judge what the package makes of these records
     of_programs = f"{SAMPLES}/how-programs-end.script"
@@ -292,7 +294,8 @@ def programs(setup):
         if form == "events":
             yield f"{name}: threads", Plan(words, reports_threads, script, whole, kind="thread", calls=1)
     script, text = f"{CASES}/refusals/images.script", f"{CASES}/refusals/images.posts"
-    files = [*(f"load={unit}={{{name}}}={name}" for unit, name in enumerate(IMAGES)), *(f"save={unit}={{{SAVED[name]}}}={name}" for unit, name in enumerate(IMAGES))]
+    files = [*(f"load={unit}={{{name}}}={name}" for unit, name in enumerate(IMAGES)),
+             *(f"save={unit}={{{SAVED[name]}}}={name}" for unit, name in enumerate(IMAGES))]
     opened = {**dict.fromkeys(IMAGES, os.O_RDONLY), **dict.fromkeys(SAVED.values(), os.O_WRONLY | os.O_CREAT)}
     name, it = plan("report", fills_or_lacks, script, text, "form=posts", *files, files=IMAGES, opened=opened, least=2)
     # the record of these posts

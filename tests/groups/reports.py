@@ -275,7 +275,8 @@ def large_disk(last):
     image, lines = b"CKD_P370" + struct.pack("<IIB", 17, 63488, 0x90).ljust(504, b"\0"), ["disk 0 0 -"]
     for head in range(17):
         at, size = bytes([0, 0, 0, head]), last if head == 16 else 63000
-        image += formats.bytes_of(formats.Track(0, [(at + b"\0", b"", bytes(8)), (at + b"\1", b"", b"A" * size)], b""), 63488, 0, head)
+        image += formats.bytes_of(formats.Track(0, [(at + b"\0", b"", bytes(8)), (at + b"\1", b"", b"A" * size)], b""), 63488, 0,
+                                  head)
     lines.append("open 0 in 18000000000000000000000000100011")
     for number, head in enumerate((3, 5)):
         iob = f"4200000000001028{'00' * 8}0000103000000001{'00' * 8}000000000000{head:02X}01"
@@ -285,7 +286,8 @@ def large_disk(last):
 
 
 def large_tape(last):
-    """The image of a tape with 16 blocks of 65,535 bytes, and one of this many; and the rest of a script that reads the first two."""
+    """The image of a tape with 16 blocks of 65,535 bytes, and one of this many; and the rest of a script that reads the first
+    two."""
     sizes = [65535] * 16 + [last]
     image = formats.image_of(formats.Tape([b"A" * it for it in sizes], [[it] for it in sizes]))
     area = f"4200000000001028{'00' * 8}0000103000000001{'00' * 24}02001040600000100200104020000010{'00' * 16}"
@@ -293,14 +295,16 @@ def large_tape(last):
 
 
 def is_bounded(setup, give, rest, parts):
-    """A medium with 1 MiB is whole. With one byte more it has the parts that the run touched, also by commands that are left out."""
+    """A medium with 1 MiB is whole. With one byte more it has the parts that the run touched, also by commands that are left
+    out."""
     media = []
     for last, words in ((rest, ()), (rest + 1, ()), (rest + 1, ("--most-steps", "1"))):
         image, lines = give(last)
         with tempfile.NamedTemporaryFile(prefix="image-") as file:
             file.write(image)
             file.flush()
-            ran = setup.run("report", "--json", "--load", f"0={file.name}", *words, script="\n".join(["tasks 1", *lines, "wait 0", ""]))
+            ran = setup.run("report", "--json", "--load", f"0={file.name}", *words,
+                            script="\n".join(["tasks 1", *lines, "wait 0", ""]))
         found = as_json(ran)
         require(all(post["code"] == "7F" for post in found["posts"]), "a request fails", ran)
         reports.check_form(found, "run", reports.FORM)
@@ -355,7 +359,8 @@ END
 CUT_ENDS = {
     "print('excp: out of memory', file=sys.stderr); sys.exit(3)": (3, "excp: out of memory\n"),
     "os.kill(os.getpid(), signal.SIGKILL)": (128 + signal.SIGKILL, ""),
-    "print('\\n{}')": (3, "excp: error of this program: a record of the program has another form; please report it with the script\n"),
+    "print('\\n{}')": (3,
+                       "excp: error of this program: a record of the program has another form; please report it with the script\n"),
 }
 
 
@@ -423,7 +428,8 @@ def scenario_cases(setup):
     for service in AT_ONCE, BY_COMMANDS:
         for other in OTHERS:
             give = lambda s=service, o=other: [disturbed(s, o, at) for at in range(8 + 4 * len(s))]
-            yield Case(f"JSON with {other} before each of {len(service)} calls", lambda g=give: scenarios_are_right(setup, g), ORIGIN)
+            yield Case(f"JSON with {other} before each of {len(service)} calls", lambda g=give: scenarios_are_right(setup, g),
+                       ORIGIN)
     for unit, commands in COMMANDS_OF_UNITS.items():
         give = lambda u=unit, c=commands: [every_command(u, c)]
         yield Case(f"JSON of every command of a {unit.split()[0]}", lambda g=give: scenarios_are_right(setup, g), ORIGIN)

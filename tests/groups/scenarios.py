@@ -28,7 +28,8 @@ rec 0 0 0 1 - C1C2C3C4
 open 0 out 18000000000000000000000000000001
 """
 IOB = "4200000000001028 0000000000000000 0000103000000001 0000000000000000 0000000000000001 0000000000000000"
-READ = f"area 0 001000 {IOB} 3100105040000005 0800103000000000 0600106000000004 0000000000000000 0000000001000000 0000000000000000 0000000000000000\n"
+PROGRAM = "3100105040000005 0800103000000000 0600106000000004 0000000000000000 0000000001000000 0000000000000000 0000000000000000"
+READ = f"area 0 001000 {IOB} {PROGRAM}\n"
 EXCP = "excp {} 0 1 001000 0 001000 0"
 
 # How a request is posted that read R1, that waited or came too late, and that was halted so many commands after its start.
@@ -202,7 +203,8 @@ def disturbed(service, other, place):
     name = "{} 0 {}".format(*REQUESTS[served]) if active else ""
     word = ("Closing", "Closed") if other.startswith("close") else ("Active", "Quiet")
     answer = f"expect {word[0]} {name}" if active else f"expect {word[1]}"
-    text = ["tasks 2", DISK + READ + "room intake 4\nroom post 4\nroom book 0 4", *events[:place], other, answer, *events[place:], "settle 0", "expect Settled"]
+    text = ["tasks 2", DISK + READ + "room intake 4\nroom post 4\nroom book 0 4", *events[:place], other, answer, *events[place:],
+            "settle 0", "expect Settled"]
     ends = [ENDED] * served + [WAITED] * (4 - served)
     if active:
         # before the interruption the program has ended, and a halt comes too late
@@ -249,7 +251,8 @@ def room_for(count):
     on once there is room."""
     rooms = f"room intake {count}\nroom post {count}\nroom book 0 {count}\n"
     issued = f"{EXCP.format(0)}\n" * count + f"expect Accepted 0 0 {count}\n{EXCP.format(0)}\nexpect Full\n"
-    taken = "take 0\n" * count + f"expect Took 0 0 {count}\n{EXCP.format(0)}\nexpect Accepted 0 0 {count + 1}\ntake 0\nexpect Held\n"
+    taken = "take 0\n" * count + f"expect Took 0 0 {count}\n"
+    taken += f"{EXCP.format(0)}\nexpect Accepted 0 0 {count + 1}\ntake 0\nexpect Held\n"
     served = "start 0\nexpect Started 0 0 1\nrun 0 16\ninterrupt 0\nexpect Ended 0 0 1 7F\ntake 0\nexpect Held\ndeliver 0\n"
     purged = f"take 0\nexpect Took 0 0 {count + 1}\npurge 0 0 1 quiesce\nexpect Quiet\n"
     out = "deliver 0\n" * (count - 1) + f"expect Delivered 0 0 {count}\ndeliver 0\nexpect Full 0 0 {count + 1}\n"
@@ -309,7 +312,8 @@ def cases(setup):
     for name, give in made():
         yield Case(name, lambda g=give: are_met(setup, g), origin)
     for seed in range((JOBS_LONG if setup.is_long else JOBS) // BATCH):
-        yield Case(f"{BATCH} jobs at random: {seed}", lambda s=seed: at_random_with_locks(setup, s), "the units under locks, by docs/MANUAL.md")
+        yield Case(f"{BATCH} jobs at random: {seed}", lambda s=seed: at_random_with_locks(setup, s),
+                   "the units under locks, by docs/MANUAL.md")
     yield Case("turns_of_sixty_four_commands", lambda: has_turns(setup), origin)
     for word in "step", "report":
         yield Case(f"output_is_not_written: {word}", lambda w=word: with_full_output(setup, w), "docs/MANUAL.md")

@@ -1,5 +1,5 @@
-"""Scripts without controls, each unit used by one task: `run` prints what a unit posts that serves one request at a time, and `report`
-the media that it leaves.
+"""Scripts without controls, each unit used by one task: `run` prints what a unit posts that serves one request at a time, and
+`report` the media that it leaves.
 
 tests/one_at_a_time.py computes both, as crates/serial_order defines them. Of each request the whole area is compared. A mutant of
 these definitions has to differ from the program on at least one of the scripts, so they reach what it changes.

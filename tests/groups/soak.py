@@ -1,7 +1,7 @@
 """Runs of small scripts of eight shapes end, and post each request once, while their threads are stopped and continued at random.
 
-tests/soak.py has the shapes, and says how threads are stopped, and what a run that does not end reports in out/soak. One run does not
-end because its first worker is held up. So the counts that it has to report are known.
+tests/soak.py has the shapes, and says how threads are stopped, and what a run that does not end reports in out/soak. One run does
+not end because its first worker is held up. So the counts that it has to report are known.
 """
 
 import collections
@@ -24,8 +24,9 @@ SIDE_BY_SIDE = 8
 # At most one run in so many may take longer than a minute.
 LATE = 100
 
-# The subclasses of four units, and how many requests each of two tasks issues to each unit. The first of two workers serves the units
-# 0 and 2, and the subclasses 0 and 2. While it is held up, units 0 and 2 take nothing, and the status of unit 3 stays pending.
+# The subclasses of four units, and how many requests each of two tasks issues to each unit. The first of two workers serves the
+# units 0 and 2, and the subclasses 0 and 2. While it is held up, units 0 and 2 take nothing, and the status of unit 3 stays
+# pending.
 SUBCLASSES = 0, 1, 2, 2
 ISSUED = collections.Counter({(0, 0): 2, (0, 1): 3, (0, 3): 4, (1, 0): 1, (1, 1): 1, (1, 2): 5, (1, 3): 2})
 TOLD = """\

@@ -47,7 +47,8 @@ WORDS = {
     "convert to ckd": ("convert --to ckd --output FILE", f"tasks 1\n{OWN_DISK}wait 0\n", "disk"),
 }
 
-CONTENTS = {"tape": "a tape image", "packed tape": "a compressed tape image", "disk": "a disk image", "paper": "new text", "scenario": "new text"}
+CONTENTS = {"tape": "a tape image", "packed tape": "a compressed tape image", "disk": "a disk image", "paper": "new text",
+            "scenario": "new text"}
 
 # A disk whose second track has the home address of another one.
 MISPLACED = small_volume()[:636] + b"\2" + small_volume()[637:]
@@ -452,7 +453,8 @@ def is_decided_after_the_run(setup):
 
 def is_as_it_was_read(setup):
     """The image that a unit was loaded from is not lost if another program writes it, or leads its name to another image."""
-    for why in "another program has written it since it was read: only --force replaces it", "its name leads to another file than before the run":
+    for why in ("another program has written it since it was read: only --force replaces it",
+                "its name leads to another file than before the run"):
         with tempfile.TemporaryDirectory(prefix="targets-") as folder:
             target = Target(setup, "report, a tape", folder)
             write(target.path("in"), (target.script.replace("tape 0 0 1000", "tape 0 0 -") + EXCP * 4000).encode())
@@ -494,7 +496,8 @@ def dialog_learns_its_unit(setup):
     with tempfile.TemporaryDirectory(prefix="targets-") as folder:
         file = f"{folder}/saved"
         words = setup.command("step", "--save", f"0={file}")
-        for old, why in (b"notes", "it holds text, which a tape image replaces only with --force"), (small_volume(), "it holds a disk image, which a"):
+        of_text = "it holds text, which a tape image replaces only with --force"
+        for old, why in (b"notes", of_text), (small_volume(), "it holds a disk image, which a"):
             write(file, old)
             ran = run(words, f"{MARKED}{EVENTS}finish\n")
             require(ran.status == 1 and "finish: Finished 1\n" in ran.out, "not carried out", ran)
@@ -534,7 +537,8 @@ def compressed_image_is_kept(setup):
 
 def unmet_expectation_saves(setup):
     """A scenario of which an expectation is not met ends with status 1, and saves; one with a fault saves nothing."""
-    for end, is_saved in ("expect Nothing\nfinish\n", True), ("expect Nothing\n", True), ("expect Nothing\nfinnish\n", False), ("", True):
+    nothing = "expect Nothing\n"
+    for end, is_saved in (f"{nothing}finish\n", True), (nothing, True), (f"{nothing}finnish\n", False), ("", True):
         with tempfile.TemporaryDirectory(prefix="targets-") as folder:
             ran = run(setup.command("step", "--save", "0=saved"), f"{MARKED}{EVENTS}{end}", cwd=folder)
             require(ran.status == (1 if end else 0), "another status", ran)
@@ -543,7 +547,8 @@ def unmet_expectation_saves(setup):
 
 def output_that_fails_saves_nothing(setup):
     """A run whose output cannot be written saves nothing. If nothing reads it any more, `report` saves, and `step` ends before."""
-    for words, script, is_saved in ("report", f"tasks 1\n{MARK}".replace(OTHER, ""), True), ("step", f"{MARKED}{EVENTS}finish\n", False):
+    job = f"tasks 1\n{MARK}".replace(OTHER, "")
+    for words, script, is_saved in ("report", job, True), ("step", f"{MARKED}{EVENTS}finish\n", False):
         for status, said, output in (1, "excp: output not written\n", "/dev/full"), (0, "", ""):
             reader, writer = (None, os.open(output, os.O_WRONLY)) if output else os.pipe()
             if reader is not None:
@@ -556,7 +561,8 @@ def output_that_fails_saves_nothing(setup):
 
 
 def unread_report_saves(setup):
-    """A report in each form, which nothing reads or which cannot be written, saves as one in words does; so do scenarios as pages."""
+    """A report in each form, which nothing reads or which cannot be written, saves as one in words does; so do scenarios as
+    pages."""
     job = f"tasks 1\n{MARK}".replace(OTHER, f"tape 1 0 200000\nblock 1 {'C1' * 65535}\n")
     for words, script, is_saved in (
         *((["report", *form], job, True) for form in ([], ["--steps"], ["--json"], ["--html"], ["--seed", "1"])),
@@ -706,7 +712,8 @@ def image_of_a_unit_is_kept(_setup):
         os.symlink(image, link)
         unit = UnitFile(0, image)
         require(unwritten(lambda: Targets(None, False, [unit], [UnitFile(1, link)])) == OF_TWO_UNITS, "named for two units")
-        require(unwritten(lambda: Targets(None, False, [], [unit, UnitFile(1, f"{image}.excp-new")])) == OF_TWO_UNITS, "the new file")
+        require(unwritten(lambda: Targets(None, False, [], [unit, UnitFile(1, f"{image}.excp-new")])) == OF_TWO_UNITS,
+                "the new file")
         targets = Targets(None, False, [unit], [UnitFile(0, link)])
         for number, why in (0, None), (1, TAKEN_BY_PACKAGE), (None, TAKEN_BY_PACKAGE):
             require(unwritten(lambda n=number: targets.check(Output(image, TAPE, n))) == why, f"unit {number}")
@@ -733,7 +740,8 @@ def cases(setup):
     for name in WORDS:
         for made in MADE:
             yield Case(f"{name}: {made}", lambda n=name, m=made: is_judged(setup, n, m), ORIGIN)
-        for judge in has_file_left, has_file_in_the_way, is_being_written, directory_is_missing, directory_is_not_writable, full_or_read_only:
+        for judge in (has_file_left, has_file_in_the_way, is_being_written, directory_is_missing, directory_is_not_writable,
+                      full_or_read_only):
             yield Case(f"{name}: {judge.__name__.replace('_', ' ')}", lambda n=name, j=judge: j(setup, n), ORIGIN)
         for met in MET if name in ("convert to aws", "convert to ckd") else ():
             yield Case(f"{name}: {met} at each line", lambda n=name, m=met: is_met_at_each_line(setup, n, m), ORIGIN)

@@ -45,7 +45,8 @@ class Job:
         if word == "tasks":
             self.tasks = int(rest[0])
         elif word in ("disk", "tape", "printer"):
-            self.units.append({"kind": word, "sizes": [None if it == "-" else int(it) for it in rest[2:]], "items": [], "faults": [], "openings": []})
+            self.units.append({"kind": word, "sizes": [None if it == "-" else int(it) for it in rest[2:]], "items": [],
+                               "faults": [], "openings": []})
         elif word == "rec":
             cylinder, head, number = map(int, rest[1:4])
             self.of(rest)["items"].append(Record(cylinder, head, number, content(rest[5]), content(rest[4])))
