@@ -5,11 +5,12 @@ from __future__ import annotations
 import os
 import re
 from pathlib import Path
-from typing import Callable, List, NamedTuple, Optional
+from typing import Callable, Container, List, NamedTuple, Optional
 
 from ..files.refusals import Unwritten
 from ..files.targets import TEXT, Output, Targets
 from ..findings import printable_name
+from ..symbols.statements import is_operation
 from ..symbols.words import before_comment
 from .places import Unknown
 from .walk import Walk
@@ -18,7 +19,7 @@ from .walk import Walk
 Run = Callable[[bytes], Walk]
 
 # A line of a statement with a label: what comes before its operands.
-_STATEMENT = re.compile(r"([ \t]*[^\s:;]+:[ \t]*\S+[ \t]*)")
+_STATEMENT = re.compile(r"[ \t]*(?P<label>[^\s:;]+):[ \t]*(?P<operation>\S+)[ \t]*")
 
 
 class ChangedLine(NamedTuple):
@@ -60,15 +61,24 @@ class Edition:
         self.text = "\n".join(lines).encode("utf-8", "surrogateescape")
         return changed
 
-    def set_operands(self, number: int, operands: str) -> ChangedLine:
-        """Changes the operands of the statement of a line, whose comment stays. Raises Unknown."""
+    def set_operands(self, number: int, operands: str, labels: Container[str]) -> ChangedLine:
+        """Changes the operands of the statement of a line, whose comment stays. They begin with no
+        operation, unless that is one of these labels too. Raises Unknown."""
         line = self._lines()[number - 1]
         statement = before_comment(line)
         found = _STATEMENT.match(statement)
         if found is None:
             raise Unknown(f"line {number} has no operands: set {number} TEXT changes all of it")
+        word = operands.split()[0]
+        if is_operation(word) and word not in labels:
+            raise Unknown(_with_operation(number, found, operands))
         end = statement[len(statement.rstrip()) :] + line[len(statement) :]
-        return self.set_line(number, f"{found[1]}{operands}{end}")
+        return self.set_line(number, f"{found[0]}{operands}{end}")
+
+    def has_label(self, number: int, label: str) -> bool:
+        """Whether the statement of a line has this label."""
+        found = _STATEMENT.match(self._lines()[number - 1])
+        return found is not None and found["label"] == label
 
     def take_back(self, text: bytes) -> None:
         """Takes a text that it had."""
@@ -107,3 +117,14 @@ class Edition:
         if now != self._read:
             other = "another program has written it since it was read"
             raise Unknown(f"{printable_name(self.file)}: {other}; save FILE writes another file")
+
+
+def _with_operation(number: int, found: re.Match[str], text: str) -> str:
+    """What is said of operands that begin with an operation, with the words that do what is
+    meant."""
+    operation, *operands = text.split(maxsplit=1)
+    label = found["label"]
+    right = f"set {number} {label}: {text}"
+    if operands and operation == found["operation"]:
+        right = f"set {label} {operands[0]}"
+    return f"{operation} is an operation, and only operands come after a label: {right}"

@@ -6,15 +6,15 @@ import re
 from dataclasses import dataclass, field
 from typing import Callable, List, Mapping, Optional, Sequence
 
+from ..reporting.record import is_error
 from ..reporting.texts import counted
-from ..script.suggestions import nearest
 from .edition import ChangedLine, Edition
 from .media import DiskState
 from .places import Range, Unknown, address_in, labels_of, range_in
 from .travel import Travel
 from .views import LEFT_OUT, Views
 from .walk import Walk
-from .words import BY_NAME, help_lines, no_operand, no_word
+from .words import BY_NAME, help_lines, meant, no_operand, no_word
 
 # The requests that a list has, and the bytes of a place without a length.
 _MOST_REQUESTS, _BYTES = 40, 64
@@ -135,7 +135,7 @@ class Session:
             walk = self.walk
             last = self.views.step(walk, walk.step) if walk.step else []
             return [*last, self.views.position(walk)]
-        near = nearest(what, ("storage", "medium", "status")) if what else None
+        near = meant(what, ("storage", "medium", "status")) if what else None
         instead = f"; did you mean '{near}'?" if near else ""
         raise Unknown(f"show what? storage, medium or status{instead}")
 
@@ -186,14 +186,17 @@ class Session:
         if name.isdecimal():
             return self.edition.set_line(int(name), text)
         source = self.walk.job.area_source(self.walk.request.name)
-        address = labels_of(self.walk).get(name)
+        labels = labels_of(self.walk)
+        address = labels.get(name)
         if source is None or address is None:
             address_in(name, self.walk)
             raise Unknown(f"{name} is no label: expected set LABEL OPERANDS, or set LINE TEXT")
-        for line, at in source.statements().items():
-            if at == address:
-                return self.edition.set_operands(line, text)
-        raise Unknown(f"{name} names no statement: set LINE TEXT changes a line")
+        lines = [line for line, at in source.statements().items() if at == address]
+        if not lines:
+            raise Unknown(f"{name} names no statement: set LINE TEXT changes a line")
+        # a statement without bytes has the address of the next one
+        line = next((it for it in lines if self.edition.has_label(it, name)), lines[0])
+        return self.edition.set_operands(line, text, labels)
 
     def _begin(self, walk: Walk) -> List[str]:
         """Begins anew with another run, at the request at hand."""
@@ -223,6 +226,6 @@ def start_lines(session: Session) -> List[str]:
 def _ends(walk: Walk) -> str:
     """How many posts a run has, and how many of them are errors."""
     recording = walk.recording
-    bad = sum(recording.ending(it)["code"] != "7F" for it in recording.requests())
+    bad = sum(is_error(recording.ending(it)) for it in recording.requests())
     posts = counted(len(recording), "post")
     return f"{posts}, {bad} with an error" if bad else f"{posts}, none with an error"

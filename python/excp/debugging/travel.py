@@ -5,8 +5,7 @@ from __future__ import annotations
 
 from typing import Callable, List
 
-from ..device_status import NORMAL_END
-from ..reporting.record import Members, members
+from ..reporting.record import has_failed, is_error
 from ..reporting.texts import counted
 from .places import Range, Unknown, address_in, range_in
 from .views import LEFT_OUT, Views, name_of
@@ -15,9 +14,6 @@ from .words import no_operand, number_of_steps
 
 # The steps whose lines an answer has, of more the last.
 _MOST_STEPS = 10
-
-# The status with which a command ends well: that of a normal end, or of an equal search.
-_WELL = NORMAL_END | 0x4000
 
 
 class Travel:
@@ -106,7 +102,7 @@ class Travel:
 
     def error(self, rest: str) -> List[str]:
         no_operand(rest)
-        return self._goes_to(lambda walk: _has_failed(walk), "no error comes after this")
+        return self._goes_to(_is_error, "no error comes after this")
 
     def post(self, rest: str) -> List[str]:
         no_operand(rest)
@@ -145,21 +141,9 @@ def _is_at(place: str, walk: Walk) -> bool:
         return False
 
 
-def _failed(step: Members) -> bool:
-    return "rule" in step or bool(int(step["status"], 16) & ~_WELL)
-
-
-def _has_failed(walk: Walk) -> bool:
-    """Whether the last step is an error: a command, or a post after none that is one."""
-    if not walk.is_posted:
-        last = walk.last()
-        return last is not None and _failed(last)
-    if walk.recording.ending(walk.request)["code"] == "7F":
-        return False
-    return walk.step < 2 or not _failed(_step_before_post(walk))
-
-
-def _step_before_post(walk: Walk) -> Members:
-    return members(walk.line(walk.step - 1))
-
-
+def _is_error(walk: Walk) -> bool:
+    """Whether the last step is an error, a command or a post."""
+    if walk.is_posted:
+        return is_error(walk.recording.ending(walk.request))
+    last = walk.last()
+    return last is not None and has_failed(last)

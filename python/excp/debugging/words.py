@@ -2,7 +2,7 @@
 
 from __future__ import annotations
 
-from typing import List, Mapping, NamedTuple, Sequence
+from typing import List, Mapping, NamedTuple, Optional, Sequence
 
 from ..script.suggestions import nearest
 from .places import FORM, Unknown
@@ -49,8 +49,13 @@ def help_lines() -> List[str]:
     return [*lines, f"  PLACE is {FORM}; area is the start of the area."]
 
 
+def meant(typed: str, known: Sequence[str]) -> Optional[str]:
+    """The word that one may mean which is misspelt, or cut."""
+    return nearest(typed, known) or next((it for it in known if it.startswith(typed)), None)
+
+
 def no_word(typed: str) -> str:
-    near = nearest(typed, [it.name for it in WORDS])
+    near = meant(typed, [it.name for it in WORDS])
     return f"{typed}: no such word; {f'did you mean {near!r}?' if near else 'help lists them'}"
 
 

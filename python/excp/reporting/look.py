@@ -9,14 +9,11 @@ from typing import TYPE_CHECKING, Callable, Optional
 
 from ..findings import PLAIN, RED
 from ..images.ebcdic import seen
-from .record import Members
+from .record import Members, is_error
 
 if TYPE_CHECKING:
     # a library prints histories without it
     from ..symbols.source_map import AreaSource, SourceMap
-
-# The completion code of a request whose program ended well.
-_WELL = "7F"
 
 _ASCII = bytes(byte if 0x20 <= byte < 0x7F else 0x2E for byte in range(256))
 
@@ -40,7 +37,7 @@ class Look:
 
     def posted(self, lines: str, post: Members) -> str:
         """The lines of a post, which are of a failure unless its program ended well."""
-        return lines if post["code"] == _WELL else self.failed(lines)
+        return self.failed(lines) if is_error(post) else lines
 
     def failed(self, lines: str) -> str:
         """The lines of what failed."""

@@ -8,7 +8,15 @@ import re
 from enum import Enum
 from typing import Any, Dict, Iterable, Iterator, Optional
 
+from ..device_status import NORMAL_END
+
 Members = Dict[str, Any]
+
+# The status with which a command ends well: that of a normal end, or of an equal search.
+_WELL = NORMAL_END | 0x4000
+
+# The completion code of a request whose program ended well.
+_WELL_POSTED = "7F"
 
 
 class Part(Enum):
@@ -35,6 +43,16 @@ def members(text: str) -> Members:
     """The members of the object of JSON with which a text begins."""
     found: Members = _DECODER.raw_decode(text)[0]
     return found
+
+
+def has_failed(step: Members) -> bool:
+    """Whether the command of a step is an error."""
+    return "rule" in step or bool(int(step["status"], 16) & ~_WELL)
+
+
+def is_error(post: Members) -> bool:
+    """Whether a post is one of a request whose program did not end well."""
+    return bool(post["code"] != _WELL_POSTED)
 
 
 class Record:

@@ -9,7 +9,7 @@ from typing import TYPE_CHECKING, Iterable, Iterator, List, NamedTuple, Optional
 from ..device_status import NORMAL_END, SENSE_BITS, STATUS_BITS, names_of
 from .folds import Fold, folded
 from .look import Look
-from .record import Members, members
+from .record import Members, has_failed, members
 from .step import Step, ccw_names, step_of
 from .texts import counted
 
@@ -20,9 +20,6 @@ if TYPE_CHECKING:
 _INDENT = "#         "
 
 LEFT_OUT = f"{_INDENT}--most-steps leaves out the commands from here\n"
-
-# The status with which a command ends well: that of a normal end, or of an equal search.
-_WELL = NORMAL_END | 0x4000
 
 # The hexadecimal digits of a group, and the width of what comes before the source of a CCW.
 _GROUP, _BEFORE_SOURCE = 8, 54
@@ -79,9 +76,8 @@ class StepLines:
 
     def _made(self, device: str, text: str, area: Optional[AreaSource]) -> _StepText:
         step = members(f"{text}}}")
-        has_failed = "rule" in step or bool(int(step["status"], 16) & ~_WELL)
         before = [*self._ccws(device, step, area), *self._moved(step, area)]
-        return _StepText(_joined(before), _joined([f"  {_ending(step, area)}"]), has_failed)
+        return _StepText(_joined(before), _joined([f"  {_ending(step, area)}"]), has_failed(step))
 
     def _ccws(
         self, device: str, step: Members, area: Optional[AreaSource]

@@ -122,6 +122,11 @@ _OPERATIONS: Mapping[str, _Operation] = {
 _EXPECTED = f"expected {listed(['a mnemonic', *_OTHERS, 'endarea'])}"
 
 
+def is_operation(word: str) -> bool:
+    """Whether a statement has this name."""
+    return word in _OPERATIONS
+
+
 def put_statement(area: OpenArea, line: Word) -> None:
     """Assembles `LABEL: OPERATION OPERANDS`. The label is defined even if the statement has a
     mistake."""
