@@ -13,6 +13,7 @@ import pty
 import random
 import re
 import subprocess
+import tempfile
 
 from groups import random as at_random
 from harness import CASES, SAMPLES, TOP, Case, Failed, Skipped, expect, files, multiple, read, require, run
@@ -174,6 +175,27 @@ def talks_at_a_terminal(setup):
     require(re.fullmatch(f"{faults}# {request.format(2)} was issued and never taken\n", err), f"standard error has {err!r}")
 
 
+def names_what_is_left(setup):
+    """At its end a scenario in a file names the requests that no unit took, on standard error alone; through a pipe none."""
+    second = EXCP.replace("excp {} 0", "excp {} 1")
+    issued = EXCP.format(1), EXCP.format(0), second.format(0), "take 0", EXCP.format(1), second.format(1)
+    text = "\n".join(["tasks 2", f"{DISK}tape 1 0 40\nopen 1 out\n{READ}", *issued, "take 1", "take 0", "start 0", ""])
+    due = "".join(f"# request {it} was issued and never taken\n" for it in ("2 of task 1 to unit 0", "1 of task 1 to unit 1"))
+    piped = setup.run("step", script=text)
+    require((piped.status, piped.err) == (0, "") and piped.out.endswith("start 0: Started 1 0 1\n"), "another end", piped)
+    with tempfile.NamedTemporaryFile("w", suffix=".scenario") as file:
+        file.write(text)
+        file.flush()
+        expect(setup.run("step", file.name), (0, piped.out, due))
+        for form in "--json", "--html":
+            ran = setup.run("step", form, file.name)
+            require((ran.status, ran.err) == (0, due), f"another text with {form}", ran)
+        file.write("finish\n")
+        file.flush()
+        ran = setup.run("step", file.name)
+        require((ran.status, ran.err) == (0, ""), "a request is named that the end has taken", ran)
+
+
 def runs_out_of_memory(setup, file, lacks, refusals):
     """With each allocation made to fail in turn, a scenario under locks prints all, or a part and that memory ran out."""
     setup.skip_unproved()
@@ -326,4 +348,5 @@ def cases(setup):
             yield Case(name, lambda s=script, w=wanted: shows(setup, s, w), f"{place}, by docs/MANUAL.md")
     file = f"{CASES}/scenarios/close_lets_active_retry.scenario"  # each of its events is answered by one line
     yield Case("at a terminal", lambda: talks_at_a_terminal(setup), "docs/MANUAL.md")
+    yield Case("what is left", lambda: names_what_is_left(setup), "docs/MANUAL.md")
     yield Case("through a pipe", lambda: answers_at_once(setup, file), "docs/MANUAL.md")

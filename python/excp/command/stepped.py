@@ -148,11 +148,12 @@ class _Step:
         return REJECTED
 
     def _hand_over(self, scenario: Scenario) -> None:
-        """Prints the record at the end, if that is wanted."""
+        """Prints the record at the end, if that is wanted. Of a file, and at a terminal, it names
+        the requests that are left; a program that writes the lines has them."""
         if self._is_handed_over or scenario.stage is None:
             return
         self._is_handed_over = True
-        if self._lines.is_typed:
+        if self._lines.is_typed or self._lines.whole:
             for name in never_taken(scenario.stage.site, scenario.stage.past):
                 tell(f"# {request_in_words(name)} was issued and never taken\n")
         if self._form is not None:

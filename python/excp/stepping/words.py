@@ -3,11 +3,11 @@
 from __future__ import annotations
 
 import re
-from typing import Iterator
+from typing import Sequence
 
 from ..blocks import Code
 from ..site import Site
-from ..values import EntryKind, Name
+from ..values import Name
 from .past import Past
 
 # What an answer says of a request: its name, and its completion code if it ended.
@@ -38,12 +38,12 @@ def _ended(code: int) -> str:
         return f"completion code {code:02X}"
 
 
-def never_taken(site: Site, past: Past) -> Iterator[Name]:
-    """The requests that were issued, and that their units have not taken."""
-    taken = {
-        entry.name
-        for unit in site.units
-        for entry in unit.entries()
-        if entry.kind is EntryKind.ARRIVED
-    }
-    return (name for name in past.requests() if name not in taken)
+def never_taken(site: Site, past: Past) -> Sequence[Name]:
+    """The requests that were issued, and that their units have not taken: those that were issued
+    last to each unit."""
+    left, found = [it.look().in_flight for it in site.units], []
+    for name in reversed([*past.requests()]):
+        if left[name.unit]:
+            left[name.unit] -= 1
+            found.append(name)
+    return found[::-1]
