@@ -8,7 +8,8 @@ import weakref
 from typing import Any, Iterator
 
 from . import library
-from .library import Handle, call
+from .errors import Status, error_of
+from .library import Handle, call, message, status_of
 from .values import Answer, Kind, Name
 
 # The bytes that are copied at a time.
@@ -29,8 +30,20 @@ class Calls:
             self._freed()
 
     def call(self, name: str, *values: Any) -> None:
+        """Makes a call. Raises the exception of its status."""
         with self.lock:
             call(name, self._handle, *values)
+
+    def finds(self, name: str, none: Status, *values: Any) -> bool:
+        """Makes a call that looks for something. Returns whether there is such a thing: if not,
+        the call has the status `none`. Raises as `call`."""
+        with self.lock:
+            status = status_of(name, self._handle, *values)
+            if status == none:
+                return False
+            if status:
+                raise error_of(status, message(status))
+        return True
 
     def event(self, name: str, unit: int, *values: Any) -> Answer:
         """What an event of a unit did."""

@@ -17,7 +17,6 @@ from .programs.home import LIBRARY
 from .programs.library_choice import PLACE
 
 
-
 class Handle(Structure):
     """EXCP_SITE_INIT, until a site is made."""
 
@@ -197,26 +196,32 @@ def planned(name: str) -> Tuple[Any, List[str]]:
 
 def call(name: str, handle: Handle, *values: Any) -> None:
     """Makes a call on a site. Raises the exception of its status."""
-    function, words = planned(name)
-    given: List[Any] = []
-    for word, value in zip(words, values):
-        if word in NUMBERS:
-            given.append(number(value, NUMBERS[word][1]))
-        elif word == "bytes":
-            image = value if isinstance(value, bytes) else bytes(memoryview(value))
-            given += [image, len(image)]
-        elif word == "buffer":
-            given += [value, len(value)]
-        else:
-            given.append(byref(value))
-    status = function(byref(handle), *given)
+    status = status_of(name, handle, *values)
     if status:
         raise error_of(status, message(status))
 
 
+def status_of(name: str, handle: Handle, *values: Any) -> int:
+    """Makes a call on a site. Returns its status."""
+    function, words = planned(name)
+    given: List[Any] = []
+    for word, value in zip(words, values):
+        if word == "ref":
+            given.append(byref(value))
+        elif word in NUMBERS:
+            given.append(number(value, NUMBERS[word][1]))
+        elif word == "bytes":
+            image = value if isinstance(value, bytes) else bytes(memoryview(value))
+            given += [image, len(image)]
+        else:
+            given += [value, len(value)]
+    status: int = function(byref(handle), *given)
+    return status
+
+
 def number(value: Any, most: int) -> int:
     """A number that the call can be given: ctypes would cut a larger one."""
-    found = operator.index(value)
+    found: int = value if type(value) is int else operator.index(value)
     if not 0 <= found <= most:
         raise BadNumber(Status.BAD_NUMBER, f"{found} is not a number from 0 to {most}")
     return found

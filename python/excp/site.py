@@ -8,7 +8,7 @@ from typing import Any, Iterable, List, Optional, Tuple, Union
 from . import library
 from .blocks import Address, Area, Csw
 from .calls import Calls
-from .errors import BadImage, ExcpError, Status
+from .errors import BadImage, Status
 from .unit import Dcb, Unit
 from .values import Answer, Fault, Mode, Name, Post, Record, TapeMark
 
@@ -161,12 +161,8 @@ class Site:
         """Collects the next post of a task. `None`: none is there that it has not collected."""
         post = library.Post()
         with self.calls.lock:
-            try:
-                self.calls.call("peek_post", task, post)
-            except ExcpError as error:
-                if error.status == Status.NO_POST:
-                    return None
-                raise
+            if not self.calls.finds("peek_post", Status.NO_POST, task, post):
+                return None
             storage = ctypes.create_string_buffer(post.length)
             self.calls.call("next_post", task, post, storage)
         return Post(

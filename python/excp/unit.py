@@ -8,7 +8,7 @@ from typing import TYPE_CHECKING, Any, Iterator, List, Sequence, Tuple
 
 from . import library
 from .blocks import Csw, Extent
-from .errors import ExcpError, Status
+from .errors import Status
 from .reporting.text import unit_history
 from .values import (
     Active, Answer, DcbPhase, DcbState, Device, Entry, EntryKind, Line, Method, Mode, Name, Record,
@@ -128,14 +128,10 @@ class Unit:
     def entries(self, first: int = 0) -> Iterator[Entry]:
         """The entries of the trace from one on, counted from 0: what happened at the unit since it
         was mounted, or since its last checkpoint."""
-        found = library.Entry()
+        found, finds = library.Entry(), self._calls.finds
         for place in itertools.count(first):
-            try:
-                self._calls.call("look_entry", self.number, place, found)
-            except ExcpError as error:
-                if error.status == Status.NOTHING_THERE:
-                    return
-                raise
+            if not finds("look_entry", Status.NOTHING_THERE, self.number, place, found):
+                return
             yield self._entry(found)
 
     def _entry(self, found: library.Entry) -> Entry:
@@ -183,12 +179,9 @@ class Unit:
         found, data = kind(), ctypes.create_string_buffer(most)
         with self._calls.lock:
             for place in itertools.count():
-                try:
-                    self._calls.call(name, self.number, *where, place, found, data)
-                except ExcpError as error:
-                    if error.status == Status.NOTHING_THERE:
-                        return
-                    raise
+                given = self.number, *where, place, found, data
+                if not self._calls.finds(name, Status.NOTHING_THERE, *given):
+                    return
                 yield found, memoryview(data)
 
     def record(self, most_steps: int = 0) -> str:

@@ -100,7 +100,7 @@ class Kind(enum.IntEnum):
     @property
     def word(self) -> str:
         """The word of a scenario's answer (docs/MANUAL.md)."""
-        return {Kind.RAN_PENDING: "Ran", Kind.ROW_FULL: "Full"}.get(self, self.name.capitalize())
+        return _WORDS[self]
 
     @property
     def names_request(self) -> bool:
@@ -110,6 +110,11 @@ class Kind(enum.IntEnum):
 _NAMING = {
     Kind.TOOK, Kind.STARTED, Kind.VIOLATED, Kind.AGAIN, Kind.ENDED, Kind.DELIVERED, Kind.ROW_FULL,
     Kind.ACTIVE, Kind.CLOSING,
+}
+
+
+_WORDS = {
+    **{it: it.name.capitalize() for it in Kind}, Kind.RAN_PENDING: "Ran", Kind.ROW_FULL: "Full",
 }
 
 

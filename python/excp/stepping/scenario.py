@@ -2,11 +2,11 @@
 
 from __future__ import annotations
 
-from typing import Callable, List, Mapping, NamedTuple, Optional, Sequence
+from typing import Callable, Iterator, List, Mapping, NamedTuple, Optional, Sequence
 
 from ..checking.scenario import ScenarioCheck
 from ..findings import FaultName
-from ..script.grammar import Expect, Line
+from ..script.grammar import Expect, Finish, Line, PurgeTask
 from ..script.limits import MOST_SCRIPT_BYTES
 from ..script.reading import Text
 from ..script.set_up import SetUp
@@ -23,6 +23,9 @@ _LEAST_EXCP = 29
 _ROOM = MOST_SCRIPT_BYTES // _LEAST_EXCP
 
 FINISH = "finish"
+
+# Events that are of all units.
+_OF_ALL = (PurgeTask, Finish)
 
 # Faults of the whole set-up, which no later line can mend.
 _OF_UNITS = (FaultName.MEDIUM, FaultName.EXTENT)
@@ -119,11 +122,7 @@ class Scenario:
         event = " ".join(text.words)
         lines = [f"{event}: {it}{self._words(it)}\n" for it in self._answers]
         self._answers.reverse()
-        for unit in self._viewed(stage.site):
-            if self._wanted.trace:
-                lines += self._traces[unit].new_lines()
-            if self._wanted.state:
-                lines.append(state_line(stage.site.units[unit]))
+        lines += self._views(stage.site, says)
         return "".join(lines)
 
     def _words(self, answer: str) -> str:
@@ -131,9 +130,18 @@ class Scenario:
         words = in_words(answer) if self._wanted.words else ""
         return f"  # {words}" if words else ""
 
-    def _viewed(self, site: Site) -> Sequence[int]:
-        is_any = self._wanted.trace or self._wanted.state
-        return range(len(site.units)) if is_any else ()
+    def _views(self, site: Site, says: Line) -> Iterator[str]:
+        """The views of each unit after an event, if any are wanted."""
+        wanted = self._wanted
+        if not (wanted.trace or wanted.state):
+            return
+        # an event of one unit, or of none, adds nothing to the traces of others
+        of_one = None if isinstance(says, _OF_ALL) else getattr(says, "unit", -1)
+        for unit in site.units:
+            if wanted.trace and of_one in (None, unit.number):
+                yield from self._traces[unit.number].new_lines()
+            if wanted.state:
+                yield state_line(unit)
 
     def _compare(self, text: Text) -> None:
         """Compares an expectation with the next line of the last answer."""
