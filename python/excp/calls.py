@@ -47,11 +47,16 @@ class Calls:
 
     def event(self, name: str, unit: int, *values: Any) -> Answer:
         """What an event of a unit did."""
-        answer = library.Answer()
-        self.call(name, unit, *values, answer)
+        answer = self.plain_event(name, unit, *values)
         kind = Kind(answer.kind)
         named = Name(answer.task, unit, answer.number) if kind.names_request else None
         return Answer(kind, named, answer.commands, answer.code)
+
+    def plain_event(self, name: str, unit: int, *values: Any) -> library.Answer:
+        """What an event of a unit did, as the library answers it (excp_answer)."""
+        answer = library.Answer()
+        self.call(name, unit, *values, answer)
+        return answer
 
     def made(self) -> bytes:
         """The bytes that the site made last."""

@@ -5,9 +5,9 @@
 //!     {"whole":[0,2]}
 //!     {"last":true}
 //!
-//! `ended` says why the search ended: whole, states, memory or watch. Then each request has a line: of each of its outcomes the number,
-//! the bytes of its post (the completion code, the CSW, the sense bytes and the bytes shown), and how many steps lead to it, about.
-//! Each whole output has a line with the number of an outcome for each request, if they are sought.
+//! `ended` says why the search ended: whole, states, memory or watch. Then each request has a line. Of each of its outcomes it has the
+//! number, the bytes of the post, and how many steps lead to it, about. The bytes are the completion code, the CSW, the sense bytes
+//! and the bytes shown. Each whole output has a line with the number of an outcome for each request, if they are sought.
 //!
 //!     {"steps":["task 0","take 0","start 0","run 0 64","interrupt 0","deliver 0","collect 0"],"last":true}
 //!

@@ -3,7 +3,7 @@
 //! Standard input has a question on each line:
 //!
 //!     job LENGTH            first: the text of the script follows, which is searched
-//!     try STATES LENGTH     the text of a changed script follows, which is searched up to so many states
+//!     try STATES LENGTH     the text of a changed script follows, which is searched up to this number of states
 //!     steps REQUEST PLACE   the steps that lead to an outcome of a request, by its place among them
 //!     whole PLACE           the steps that lead to a whole output
 //!     run                   the steps of some whole run

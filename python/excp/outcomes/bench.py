@@ -2,6 +2,7 @@
 
 from __future__ import annotations
 
+import functools
 from dataclasses import dataclass
 from typing import Any, Callable, Iterable, List, Mapping, Optional, Sequence, Tuple
 
@@ -142,9 +143,9 @@ class _Rerun:
 
     def _once(self, step: str) -> bool:
         """Makes a step if it can be made now."""
-        verb, number, *rest = step.split()
+        verb, *numbers = _parsed(step)
         make: Callable[..., bool] = _MAKERS.get(verb, _Rerun._of_unit)
-        is_made = make(self, verb, int(number), *map(int, rest))
+        is_made = make(self, verb, *numbers)
         if is_made:
             self.steps.append(step)
             if verb == COLLECT and self._is_target(self.posts[-1]):
@@ -162,7 +163,7 @@ class _Rerun:
         return done < len(commands) and commands[done].verb == WAIT
 
     def _of_unit(self, verb: str, number: int, *most: int) -> bool:
-        answer = getattr(self._stage.site.units[number], verb)(*most)
+        answer = self._stage.site.calls.plain_event(verb, number, *most)
         self._commands += answer.commands
         return answer.kind not in UNCHANGED
 
@@ -206,6 +207,13 @@ class _Rerun:
 
 
 _MAKERS: Mapping[str, Callable[..., bool]] = {TASK: _Rerun._of_task, COLLECT: _Rerun._collect}
+
+
+@functools.lru_cache(maxsize=None)
+def _parsed(step: str) -> Sequence[Any]:
+    """The first word of a step, and its numbers."""
+    verb, *numbers = step.split()
+    return verb, *map(int, numbers)
 
 
 def _own(steps: Sequence[str]) -> List[str]:
