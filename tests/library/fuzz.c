@@ -1,8 +1,8 @@
 /* Makes calls at random, many with wrong arguments, wrong handles or NULL pointers:  fuzz SEED SECONDS
  *
  * Tested of each call: its status is one of excp.h; if a pointer that it needs is NULL, or the handle has no site, it does not
- * succeed; if it does not succeed, it writes nothing; and, of some of those calls, all that can be seen of the site is as before, but
- * for the words on an image at fault.
+ * succeed; if it does not succeed, it writes nothing; and, of some of those calls, all that can be seen of the site is as before,
+ * but for the words on an image at fault.
  * What is given has just its length, so a checker of memory finds a read or a write past it. */
 #define _POSIX_C_SOURCE 199309L
 #include "images.h"
@@ -66,8 +66,8 @@ static void put(uint8_t *bytes, int count, uint32_t value)
 
 static void put_ccw(uint8_t *ccw, uint32_t base)
 {
-    static const uint8_t commands[] = { 0x31, 0x29, 0x06, 0x0E, 0x1E, 0x12, 0x05, 0x0D, 0x1D, 0x03, 0x04, 0x08, 0x01, 0x02, 0x0C, 0x1F,
-                                        0x07, 0x27, 0x2F, 0x37, 0x3F, 0x09, 0x11, 0x19, 0x89, 0x0B, 0x13, 0x1B, 0x8B };
+    static const uint8_t commands[] = { 0x31, 0x29, 0x06, 0x0E, 0x1E, 0x12, 0x05, 0x0D, 0x1D, 0x03, 0x04, 0x08, 0x01, 0x02, 0x0C,
+                                        0x1F, 0x07, 0x27, 0x2F, 0x37, 0x3F, 0x09, 0x11, 0x19, 0x89, 0x0B, 0x13, 0x1B, 0x8B };
     static const uint8_t flags[] = { 0x40, 0x60, 0x20, 0x00, 0xC0, 0x80, 0x70, 0x44, 0x64 };
     ccw[0] = rarely() ? (uint8_t)chance(256) : commands[chance(sizeof commands)];
     put(ccw + 1, 3, base + (ccw[0] % 16 == 8 ? 0x30 + 8 * chance(8) : 0x60 + 4 * chance(16)));
@@ -172,7 +172,9 @@ static excp_status mount(excp_site *site, written *to)
     const excp_room *given = pointer(&room);
     uint16_t *unit = pointer(&to->short_number);
     switch (chance(5)) {
-    case 0: return excp_mount_disk(site, long_number(1 + chance(2)), long_number(1 + chance(2)), long_number(40 + chance(60)), given, unit);
+    case 0:
+        return excp_mount_disk(site, long_number(1 + chance(2)), long_number(1 + chance(2)), long_number(40 + chance(60)), given,
+                               unit);
     case 1: return excp_mount_tape(site, long_number(chance(4) ? 100 + chance(400) : chance(8)), given, unit);
     case 2: return excp_mount_printer(site, long_number(1 + chance(9)), long_number(1 + chance(3)), given, unit);
     default: return mount_image(site, given, unit);
@@ -211,8 +213,8 @@ static excp_status open_dcb(excp_site *site, written *to)
         memset(extents.bytes + at, 0, 16);
         extents.bytes[at + 15] = 1;
     }
-    status = excp_open(site, (uint16_t)number(4), (uint8_t)(rarely() ? chance(256) : chance(2)), bytes_at(extents.bytes, extents.length),
-                       extents.length, pointer(&to->short_number));
+    status = excp_open(site, (uint16_t)number(4), (uint8_t)(rarely() ? chance(256) : chance(2)),
+                       bytes_at(extents.bytes, extents.length), extents.length, pointer(&to->short_number));
     free(extents.bytes);
     return status;
 }
@@ -258,8 +260,8 @@ static excp_status made_call(excp_site *site, written *to)
         return chance(2) ? excp_waiting(site, unit, place, pointer(&to->short_number), pointer(&to->number))
                          : excp_look_entry(site, unit, place, pointer(&to->entry));
     case 32:
-        return excp_read_record(site, unit, (uint16_t)number(2), (uint16_t)number(2), place, pointer(&to->record), bytes_at(to->bytes, room),
-                                room);
+        return excp_read_record(site, unit, (uint16_t)number(2), (uint16_t)number(2), place, pointer(&to->record),
+                                bytes_at(to->bytes, room), room);
     case 33: return excp_printed_line(site, unit, place, pointer(&to->line), bytes_at(to->bytes, room), room);
     case 34: return excp_make_record(site, unit, place, pointer(&to->length));
     case 35: return excp_make_image(site, unit, pointer(&to->length));
@@ -272,8 +274,8 @@ static excp_status made_call(excp_site *site, written *to)
 
 static void wrong(const char *what, excp_status status)
 {
-    fprintf(stderr, "fuzz: seed %llu, call %llu: %s: %d, %s\n", (unsigned long long)seed, (unsigned long long)made, what, (int)status,
-            excp_message(status));
+    fprintf(stderr, "fuzz: seed %llu, call %llu: %s: %d, %s\n", (unsigned long long)seed, (unsigned long long)made, what,
+            (int)status, excp_message(status));
     exit(1);
 }
 

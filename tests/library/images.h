@@ -5,8 +5,8 @@
 #include <stdint.h>
 #include <string.h>
 
-/* A block of three bytes in two chunks, and a tape mark: two bytes of data, one, and none, each behind the length of its own data and
- * of that of the chunk before. */
+/* A block of three bytes in two chunks, and a tape mark: two bytes of data, one, and none, each behind the length of its own data
+ * and of that of the chunk before. */
 static const uint8_t TAPE_IMAGE[] = {
     2, 0, 0, 0, 0x80, 0, 0xC1, 0xC2,
     1, 0, 2, 0, 0x20, 0, 0xC3,

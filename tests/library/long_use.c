@@ -1,5 +1,5 @@
-/* Issues and serves many requests, with a checkpoint after each so many: `long_use 100000 100`. The memory in use stays as it was after
- * the first checkpoint, and numbers of requests go on. Without checkpoints it grows, which shows that the measure sees it. */
+/* Issues and serves many requests, with a checkpoint after each so many: `long_use 100000 100`. The memory in use stays as it was
+ * after the first checkpoint, and numbers of requests go on. Without checkpoints it grows, which shows that the measure sees it. */
 #include "excp.h"
 
 #include <malloc.h>
@@ -62,7 +62,8 @@ int main(int count, char **words)
     excp_room room = { 1, 1 };
     uint16_t unit, dcb;
     size_t begun, ended, grown;
-    if (requests == 0 || step == 0 || excp_site_new(&site, 1, 1) != EXCP_OK || excp_mount_printer(&site, 1, 1, &room, &unit) != EXCP_OK
+    if (requests == 0 || step == 0 || excp_site_new(&site, 1, 1) != EXCP_OK
+        || excp_mount_printer(&site, 1, 1, &room, &unit) != EXCP_OK
         || excp_open(&site, unit, EXCP_OUTPUT, NULL, 0, &dcb) != EXCP_OK || serve(&site, 1, step, step))
         return 1;
     begun = in_use();
@@ -78,7 +79,7 @@ int main(int count, char **words)
         return wrong("without checkpoints the memory in use does not grow, so this measures nothing", step + requests + FEW);
     if (excp_site_free(&site) != EXCP_OK)
         return wrong("the site is not freed", 0);
-    printf("%llu requests with checkpoints take %ld bytes more, %d without take %lu\n", (unsigned long long)requests, (long)(ended - begun),
-           FEW, (unsigned long)(grown - ended));
+    printf("%llu requests with checkpoints take %ld bytes more, %d without take %lu\n", (unsigned long long)requests,
+           (long)(ended - begun), FEW, (unsigned long)(grown - ended));
     return 0;
 }

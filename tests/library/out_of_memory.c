@@ -119,7 +119,8 @@ static excp_status issue(excp_site *site, uint16_t task, uint16_t unit, uint8_t 
 
 enum { CHANGES_NOTHING, SERVES };
 
-/* The first call that keeps what it did. From there on histories differ, since an attempt that ended early is gone on with by taking. */
+/* The first call that keeps what it did. From there on histories differ, since an attempt that ended early is gone on with by
+ * taking. */
 enum { FIRST_SERVE = 31 };
 
 /* The calls that make records, whose lengths differ with these histories. */

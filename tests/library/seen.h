@@ -93,7 +93,8 @@ static uint64_t seen_unit(excp_site *site, uint16_t unit, const excp_unit_state 
     for (uint32_t place = 0; has_record && excp_look_entry(site, unit, place, &entry) == EXCP_OK; place++) {
         sum = mixed_number(sum, entry.number);
         sum = mixed_number(sum, (uint64_t)entry.commands << 32 | entry.address);
-        sum = mixed_number(sum, (uint64_t)entry.task << 48 | (uint64_t)entry.dcb << 32 | (uint64_t)entry.residual << 16 | entry.sense);
+        sum = mixed_number(sum, (uint64_t)entry.task << 48 | (uint64_t)entry.dcb << 32 | (uint64_t)entry.residual << 16
+                                    | entry.sense);
         sum = mixed_number(sum, (uint64_t)entry.kind << 16 | (uint64_t)entry.way << 8 | entry.code);
         sum = mixed_number(sum, (uint64_t)entry.unit_status << 8 | entry.channel_status);
     }

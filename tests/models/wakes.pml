@@ -1,9 +1,9 @@
-/* Who waits and who wakes: two tasks, two units, two workers and one handler. A comment names the function that the lines stand for,
- * as CRATE/FILE: FUNCTION. What a thread does from one access to what others see to the next is one step, an `atomic`.
+/* Who waits and who wakes: two tasks, two units, two workers and one handler. A comment names the function that the lines stand
+ * for, as CRATE/FILE: FUNCTION. What a thread does from one access to what others see to the next is one step, an `atomic`.
  *
  * ROOM is the room of each row and book; FIRST and SECOND are the requests of the tasks. If ALARM is 1, calls of workers run out of
- * memory. A thread that looks again and again waits here until it would find something. If POLLS is 1 it does look, which takes weak
- * fairness. tests/groups/models.py has spin check all this, and find a fault of each mutant. */
+ * memory. A thread that looks again and again waits here until it would find something. If POLLS is 1 it does look, which takes
+ * weak fairness. tests/groups/models.py has spin check all this, and find a fault of each mutant. */
 #define requests(t) (t == 0 -> FIRST : SECOND)
 #define awaited(t) (issued[t] - collected[t])
 #define worth(what) (POLLS || (what))
@@ -19,7 +19,8 @@ chan waiting[2] = [ROOM] of { byte };
 chan out[2] = [ROOM] of { byte };
 byte pending[2] = NONE;
 bool owes[2], locked[2];
-#define can_take(u) (len(waiting[u]) + len(out[u]) + (pending[u] != NONE) < ROOM && len(intake[u]) > 0) /* excp_system/unit.rt: take */
+/* excp_system/unit.rt: take */
+#define can_take(u) (len(waiting[u]) + len(out[u]) + (pending[u] != NONE) < ROOM && len(intake[u]) > 0)
 #define can_start(u) (pending[u] == NONE && len(waiting[u]) > 0) /* unit_book/book.rt: start */
 #define is_first(u, t) (out[u]?[t] && (posts[t] < ROOM || !token[t]))
 #define has_work(u) (can_take(u) || can_start(u) || owes[u] && len(notice) < ROOM || is_first(u, 0) || is_first(u, 1))
@@ -110,7 +111,8 @@ notices: /* excp_system/workers.rt: serve_subclass; excp_system/isc.rt: next */
     if
     :: atomic { unit == 0 && nempty(notice) -> notice?other }
         if /* excp_system/unit/book_calls.rt: interrupt. Out of memory, it owes a notice */
-        :: atomic { !locked[other] && pending[other] != NONE -> locked[other] = true; out[other]!pending[other]; pending[other] = NONE }
+        :: atomic { !locked[other] && pending[other] != NONE ->
+            locked[other] = true; out[other]!pending[other]; pending[other] = NONE }
         :: atomic { ALARM && !locked[other] && pending[other] != NONE && !lacked ->
             locked[other] = true; lacked = true; owes[other] = true }
         fi;
@@ -139,7 +141,10 @@ init {
                 :: pending[u] != NONE -> out[u]!pending[u]; pending[u] = NONE
                 :: else -> break
                 od; /* post_ledger/drain.rt: give_back. After both units: gather_all */
-                do :: out[u]?<who> -> if :: posts[who] < ROOM -> out[u]?who; posts[who]++ :: else -> break fi :: empty(out[u]) -> break od
+                do
+                :: out[u]?<who> -> if :: posts[who] < ROOM -> out[u]?who; posts[who]++ :: else -> break fi
+                :: empty(out[u]) -> break
+                od
             }
             for (u : 0 .. 1) { collected[u] = collected[u] + posts[u]; posts[u] = 0 }
         od

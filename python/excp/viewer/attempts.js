@@ -11,7 +11,8 @@ function attemptGroups(model, request) {
   });
 }
 
-/** A step that broke a rule, with the mnemonic that the program of its request has at the CCW. The JSON names no CCW that is rejected. */
+/** A step that broke a rule, with the mnemonic that the program of its request has at the CCW. The JSON names no CCW that is
+ * rejected. */
 function withMnemonic(model, request, step) {
   if (!step.rule?.image) return step;
   const { at, image } = step.rule;

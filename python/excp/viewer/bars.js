@@ -14,7 +14,9 @@ function drawBar(lane, item, view, free) {
   const isWide = right - started > 22;
   const parts = started > left + 0.5 ? [box("wait", left, started, y, Math.min(2.5, half))] : [];
   parts.push(...drawAttempts(request, view, { left, right, y, half }));
-  if (half > SIGN && ENDS[request.code] && (isWide || !request.starts.length)) parts.push(endSign(request.code, right - (isWide ? 8 : 0), y));
+  if (half > SIGN && ENDS[request.code] && (isWide || !request.starts.length)) {
+    parts.push(endSign(request.code, right - (isWide ? 8 : 0), y));
+  }
   const label = half > SIGN ? labelOf(lane, request, { left, started, right }, view, free) : undefined;
   if (label) parts.push(plate(label.name, label, y));
   return { parts, labelEnd: label ? label.x + label.width : 0 };
@@ -28,7 +30,8 @@ function drawAttempts(request, view, { left, right, y, half }) {
   if (view.pixels < 9 || half <= SIGN) return parts;
   const turns = request.runs.map(({ column }) => `M${view.middle(column)} ${y + half - 4}v4`).join("");
   if (turns && starts.length) parts.push(svg("path", { class: "turn", d: turns }));
-  if (request.halted) parts.push(svg("path", { class: "halt", d: `M${view.middle(request.halted.column)} ${y - half}v${2 * half}` }));
+  if (request.halted) parts.push(svg("path",
+    { class: "halt", d: `M${view.middle(request.halted.column)} ${y - half}v${2 * half}` }));
   return parts;
 }
 

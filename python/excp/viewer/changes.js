@@ -15,7 +15,8 @@ function mediumBefore(model, { unit, kind, medium }) {
   const content = job.content.filter(([owner]) => owner === unit);
   if (kind === "tape") return { ...medium, list: null, items: content.map(([, block]) => block), place: 0 };
   const records = content.map(([, cylinder, head, record, key, data]) => ({ cylinder, head, record, key, data }));
-  return { ...medium, byTrack: null, records: records.sort((one, other) => one.cylinder - other.cylinder || one.head - other.head) };
+  return { ...medium, byTrack: null,
+    records: records.sort((one, other) => one.cylinder - other.cylinder || one.head - other.head) };
 }
 
 /** The records or items of a medium, but for records that mounting has made. @returns {Thing[]} */
@@ -34,7 +35,8 @@ function ownName({ cylinder, head, record, id }) {
   return nameOfRecord({ cylinder, head, record, id: id === homeOf(cylinder, head) + hexOf(record, 2) ? "" : id });
 }
 
-/** What differs on a unit before and after a run. A thing with another name at the same place is another thing. @returns {Change[]} */
+/** What differs on a unit before and after a run. A thing with another name at the same place is another thing.
+ * @returns {Change[]} */
 function changesOf(before, after) {
   const places = new Map();
   for (const thing of thingsOn(before)) places.set(thing.id, { old: thing });

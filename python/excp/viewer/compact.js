@@ -19,10 +19,12 @@ function compactLanes(model, lanes, height) {
 }
 
 function compactLane(model, lane) {
-  const items = [...lane.requests.map((request) => itemOf(model, request)), ...lane.marks.map((mark) => ({ ...markItem(mark), row: 0 }))];
+  const items = [...lane.requests.map((request) => itemOf(model, request)),
+    ...lane.marks.map((mark) => ({ ...markItem(mark), row: 0 }))];
   items.sort((one, other) => one.from - other.from);
   return { ...lane, isCompact: true, isDeep: false, isCrowded: false, items, reach: reachOf(items), rows: 1, firstRow: 0,
-    itemOf: new Map(items.map((item) => [item.thing, item])), waits: [], collects: [], shownStrips: [], moreStrips: 0, stripRows: 0 };
+    itemOf: new Map(items.map((item) => [item.thing, item])), waits: [], collects: [], shownStrips: [], moreStrips: 0,
+    stripRows: 0 };
 }
 
 /** Whether a compact lane shows its label, which may need the room of the lanes after it. */

@@ -63,7 +63,8 @@ function diskOf(unit) {
       size < bytes ? `The first ${many(size)} bytes of each track, to scale:` : "To scale:",
       ["count", "key", "data"].map((area) => [" ", el("i", { class: `swatch ${area}` }), ` ${area}`]), "."],
     parts: [notWhole(medium, "tracks"), total > TRACKS_WITHOUT_MAP ? mapOf(medium, tracks, total) : null, parts,
-      records.length ? listing("Records in hexadecimal", records, (record) => [nameOfRecord(record), record.key, record.data]) : null],
+      records.length ? listing("Records in hexadecimal", records, (record) => [nameOfRecord(record), record.key, record.data])
+        : null],
     show: (place) => {
       const [cylinder, head] = place.split("-").map(Number);
       portions.upTo(tracks.findIndex((track) => track.cylinder === cylinder && track.head === head));
@@ -92,7 +93,8 @@ function drawTrack({ unit, medium, isBefore }, track, size) {
       areaOf("count", COUNT_AREA, `R${record.record}`), areaOf("key", record.key.length / 2, beginOf(record.key)),
       areaOf("data", record.data.length / 2, record.isMounted ? "" : beginOf(record.data)));
   });
-  const label = `Track ${cylinder} ${head}: ${counted(records.length, "record")}, ${many(used)} of ${many(medium.bytes)} bytes used`;
+  const bytes = `${many(used)} of ${many(medium.bytes)} bytes used`;
+  const label = `Track ${cylinder} ${head}: ${counted(records.length, "record")}, ${bytes}`;
   return el("div", { class: "track-row" }, el("span", { class: "code dim" }, `${cylinder} ${head}`),
     el("div", { class: "track", role: "img", "aria-label": label }, boxes));
 }

@@ -157,13 +157,15 @@ class Drawing {
     const numbers = ticks.map((tick) => {
       const half = (many(tick).length * LETTER) / 2 + 2;
       const x = view.middle(tick);
-      return svg("text", { x: x < 0 ? x : Math.min(Math.max(x, half), view.width - half), y: 16, "text-anchor": "middle" }, many(tick));
+      return svg("text", { x: x < 0 ? x : Math.min(Math.max(x, half), view.width - half), y: 16, "text-anchor": "middle" },
+        many(tick));
     });
     return { grid, numbers };
   }
 }
 
-/** The first label of a strip that has room in its row, to the left of a short strip or from its left edge on; undefined for none. */
+/** The first label of a strip that has room in its row, to the left of a short strip or from its left edge on; undefined for
+ * none. */
 function placeStripLabel(labels, [left, right], [before, after]) {
   const inside = Math.max(left, 0) + 4;
   for (const words of labels) {

@@ -36,7 +36,8 @@ function endsTable(model) {
   const order = [...CODES.keys()];
   const sorted = [...groups.values()].sort((one, other) =>
     order.indexOf(one.code) - order.indexOf(other.code) || other.requests.length - one.requests.length);
-  const body = sorted.map(({ code, manner, requests }) => el("tr", null, cell(chip(code)), numberCell(requests.length), cell(manner),
+  const body = sorted.map(({ code, manner, requests }) =>
+    el("tr", null, cell(chip(code)), numberCell(requests.length), cell(manner),
     cell(linksTo(requests, NAMED))));
   return [table("ends", ["Code", ["Requests"], "How they ended", "First of them"], body), ...othersOf(model)];
 }

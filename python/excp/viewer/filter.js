@@ -30,7 +30,8 @@ function filterControls({ run, whole }, filter, changed) {
   const chooser = (field, noun, number) => {
     if (number < 2) return null;
     const choices = Array.from({ length: number }, (_, at) => el("option", { value: at }, `${field} ${at}`));
-    const select = el("select", { "aria-label": `Show requests of a ${field}` }, el("option", { value: "" }, `all ${noun}`), choices);
+    const select = el("select", { "aria-label": `Show requests of a ${field}` }, el("option", { value: "" }, `all ${noun}`),
+      choices);
     select.addEventListener("change", () => {
       filter[field] = select.value === "" ? "" : Number(select.value);
       changed();

@@ -1,7 +1,8 @@
 /**
  * @file What the script of a run says, which the page has beside the JSON of the run: the channel program of each request.
  *
- * @typedef {{at: string, image: string, name: string, mnemonic: ?string, label: ?string, operand: ?string, line: ?number, text: ?string}}
+ * @typedef {{at: string, image: string, name: string, mnemonic: ?string, label: ?string, operand: ?string, line: ?number, text:
+ *   ?string}}
  * Ccw the last four are those of a job in symbols
  * @typedef {{loaded: number[], content: Array[], programs: Ccw[][], requests: number[][]}} Job
  */
@@ -12,7 +13,8 @@ function jobOf(model) {
   return model.job;
 }
 
-/** The CCWs to which the program of a request may come, by their addresses; none if the script does not tell them. @returns {Ccw[]} */
+/** The CCWs to which the program of a request may come, by their addresses; none if the script does not tell them.
+ * @returns {Ccw[]} */
 function programOf(model, { task, unit, number }) {
   const programs = jobOf(model)?.requests[task] ?? [];
   const issued = (model.run.task_events[task] ?? []).filter(({ what }) => what === "issued");

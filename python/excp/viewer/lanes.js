@@ -27,7 +27,8 @@ class Lanes {
     this.isFit = model.length <= FIT_EVENTS;
     this.pixels = FIRST_PIXELS;
     this.onview = () => {};
-    this.toggle = el("button", { type: "button", "aria-pressed": "false", hidden: true, onclick: () => this.makeTall(!this.isTall) },
+    this.toggle = el("button",
+      { type: "button", "aria-pressed": "false", hidden: true, onclick: () => this.makeTall(!this.isTall) },
       "Tall lanes");
     this.redraw = oncePerFrame(() => this.draw());
     this.axis = svg("svg", { class: "axis", height: AXIS, "aria-hidden": "true" });
@@ -75,7 +76,8 @@ class Lanes {
     const { run, taskTallies, unitTallies } = this.model;
     const isTask = lane.owner === "task";
     const tally = (isTask ? taskTallies : unitTallies)[lane.number];
-    const name = el(isTask ? "b" : "a", isTask ? null : { href: `#unit${lane.number}` }, `${isTask ? "Task" : "Unit"} ${lane.number}`);
+    const name = el(isTask ? "b" : "a", isTask ? null : { href: `#unit${lane.number}` },
+      `${isTask ? "Task" : "Unit"} ${lane.number}`);
     if (lane.isCompact) {
       return el("div", { class: "low label", style: { height: `${lane.height}px` } }, hasLabel(lane, this.shown) ? name : null);
     }
@@ -148,7 +150,8 @@ class Lanes {
   /** A dotted line from each purge, close and reset of a task to its unit. */
   drawDrops(visible) {
     const { view } = this;
-    const at = new Map(visible.map((lane) => [`${lane.owner}${lane.number}`, lane.top - this.scroller.scrollTop + MARK_ROW / 2 + 12]));
+    const at = new Map(visible.map((lane) =>
+      [`${lane.owner}${lane.number}`, lane.top - this.scroller.scrollTop + MARK_ROW / 2 + 12]));
     const isInView = ({ moment }) => moment.column > view.from && moment.column < view.to + 1;
     const lines = this.model.marks.filter((mark) => mark.by !== null && isInView(mark))
       .map(({ moment, by, unit }) => [view.middle(moment.column), at.get(`task${by}`), at.get(`unit${unit}`)])

@@ -129,7 +129,8 @@ function arrangeStrips(lane) {
   const dcbs = [...new Set(lane.strips.map(({ dcb }) => dcb))].sort((one, other) => one - other);
   lane.stripRows = Math.min(dcbs.length, MOST_STRIPS) + (lane.collects.length ? 1 : 0);
   lane.moreStrips = Math.max(0, dcbs.length - MOST_STRIPS);
-  lane.shownStrips = lane.strips.map((strip) => ({ ...strip, row: dcbs.indexOf(strip.dcb) })).filter(({ row }) => row < MOST_STRIPS);
+  lane.shownStrips = lane.strips.map((strip) => ({ ...strip, row: dcbs.indexOf(strip.dcb) }))
+    .filter(({ row }) => row < MOST_STRIPS);
 }
 
 /** The place of the first number of a sorted list that is at least `wanted`. */

@@ -1,6 +1,7 @@
 /** @file The legend: the signs that this run has, each with its words. */
 
-const legendItem = (words, width, picture) => el("li", null, svg("svg", { width, height: 16, "aria-hidden": "true" }, picture), words);
+const legendItem = (words, width, picture) =>
+  el("li", null, svg("svg", { width, height: 16, "aria-hidden": "true" }, picture), words);
 
 /** The signs of requests: for each code, and for what only some requests have. */
 function signsOfRequests({ requests, whole }) {

@@ -37,7 +37,8 @@ class RequestList {
 
   rowOf(request, place) {
     const { arrival, end, starts, commands, code } = request;
-    return el("a", { class: "request", role: "listitem", href: `#${idOf(request)}`, style: { top: `${place * ROW}px` } }, chip(code),
+    return el("a", { class: "request", role: "listitem", href: `#${idOf(request)}`, style: { top: `${place * ROW}px` } },
+      chip(code),
       el("span", { class: "code" }, shortName(request)),
       el("span", { class: "code dim" }, `${many(arrival.column)}–${end ? many(end.column) : ""}`),
       el("span", { class: "manner" }, end ? mannerOf(this.model, request) : endInWords(request)),

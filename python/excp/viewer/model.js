@@ -25,7 +25,8 @@
  *
  * @typedef {{index: number, unit: number, moment: Moment, event: object, by: ?number, dooms: Request[]}} Mark a purge, a close, a
  * reset or an open
- * @typedef {{unit: number, dcb: number, from: number, to: number, isClosed: boolean}} Strip columns of a DCB that is closed or in error
+ * @typedef {{unit: number, dcb: number, from: number, to: number, isClosed: boolean}} Strip columns of a DCB that is closed or in
+ *   error
  * @typedef {{requests: number, codes: Object<string, number>, retries: number, commands: number, marks: number}} Tally
  */
 

@@ -17,7 +17,8 @@ function listenToPointer(lanes) {
     if (thing) state.select(thing);
     else if (lanes.isDense) showAround(lanes, placeOf(event));
   });
-  picture.addEventListener("pointermove", (event) => { if (!event.target.closest?.("[data-tip]")) state.hover(thingAt(event), event); });
+  picture.addEventListener("pointermove",
+    (event) => { if (!event.target.closest?.("[data-tip]")) state.hover(thingAt(event), event); });
   picture.addEventListener("pointerleave", (event) => state.hover(null, event));
   picture.addEventListener("pointerdown", (event) => {
     if (event.pointerType === "mouse" && !thingAt(event)) drag(scroller, event);

@@ -97,8 +97,9 @@ const endInWords = (request) => (request.halted ? "halted" : CODES.get(request.c
 
 /** A purge, a close, a reset or an open in words. */
 function markInWords({ event }) {
+  const scope = "dcb_purged" in event ? `DCB ${event.dcb_purged}` : `task ${event.task_purged}`;
   switch (event.what) {
-    case "purge": return `purge of ${"dcb_purged" in event ? `DCB ${event.dcb_purged}` : `task ${event.task_purged}`} with ${event.mode}`;
+    case "purge": return `purge of ${scope} with ${event.mode}`;
     case "closed": return `close of DCB ${event.dcb}`;
     case "reset": return `reset of DCB ${event.dcb}`;
     default: return `open of DCB ${event.dcb} for ${event.way}`;

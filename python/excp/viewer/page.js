@@ -35,7 +35,8 @@ class Page {
     byId("head").append(el("p", { class: "dim" }, lead), hasTables(this.model) ? shareOf(this.model) : "", controls);
     // many lanes are an overview themselves
     const isLow = this.lanes.lanes.length > MANY_LANES;
-    byId("run").append(patterns(), this.tools(), isLow ? "" : this.overview.root, this.lanes.scroller, isLow ? this.overview.root : "",
+    byId("run").append(patterns(), this.tools(), isLow ? "" : this.overview.root, this.lanes.scroller,
+      isLow ? this.overview.root : "",
       el("div", { id: "printed" }), el("p", { class: "dim note" }, this.note()));
     document.body.append(this.panel, this.tip);
     this.lanes.arrange();

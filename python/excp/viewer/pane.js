@@ -58,7 +58,9 @@ function hitStep(rows, step, times) {
     hit(rows, ccw, times, step.rule ? step.rule.at === ccw.at : isFailed(step));
     next = hexOf(bitsOf(ccw.at) + 8, 6);
   }
-  if (step.rule && !step.ccws.some(({ at }) => at === step.rule.at)) hit(rows, { at: step.rule.at, image: step.rule.image }, times, true);
+  if (step.rule && !step.ccws.some(({ at }) => at === step.rule.at)) {
+    hit(rows, { at: step.rule.at, image: step.rule.image }, times, true);
+  }
 }
 
 function hit(rows, ccw, times, isBad = false) {

@@ -48,10 +48,12 @@ function requestPanel(model, request) {
 
 /** Rows of a number, words and a note. */
 const rows = (list) => el("table", { class: "facts" }, list.filter(Boolean).map(([number, words, note]) =>
-  el("tr", null, el("td", { class: "n" }, number), el("td", null, words), note === undefined ? null : el("td", { class: "dim" }, note))));
+  el("tr", null, el("td", { class: "n" }, number), el("td", null, words),
+    note === undefined ? null : el("td", { class: "dim" }, note))));
 
 /** The track and the record of MBBCCHHR. */
-const seekInWords = (seek) => `cylinder ${bitsOf(seek.slice(6, 10))}, head ${bitsOf(seek.slice(10, 14))}, R${bitsOf(seek.slice(14))}`;
+const seekInWords = (seek) =>
+  `cylinder ${bitsOf(seek.slice(6, 10))}, head ${bitsOf(seek.slice(10, 14))}, R${bitsOf(seek.slice(14))}`;
 
 /** The number of an event; nothing for one of the set-up. */
 const eventNumber = ({ column }) => (column ? many(column) : "");
@@ -83,14 +85,16 @@ function startsOf(request) {
       commands ? ["", `ran ${counted(commands, "command")}`] : null];
   });
   const leftOut = list.length - MOST_STARTS;
-  if (leftOut > 0) list.splice(MOST_STARTS - 1, leftOut, [["…", `${counted(leftOut, "more start")}, attempts ${MOST_STARTS} to ${list.length - 1}`]]);
+  if (leftOut > 0) list.splice(MOST_STARTS - 1, leftOut,
+    [["…", `${counted(leftOut, "more start")}, attempts ${MOST_STARTS} to ${list.length - 1}`]]);
   return list.flat();
 }
 
 function doomerOf({ request, mark }) {
   if (request) return ["By ", linkTo(request), `, posted ${request.code}.`];
   if (!mark) return null;
-  return ["Event ", eventNumber(mark.moment), ": ", linkTo(mark, markInWords(mark)), mark.by === null ? "." : `, by task ${mark.by}.`];
+  return ["Event ", eventNumber(mark.moment), ": ", linkTo(mark, markInWords(mark)),
+    mark.by === null ? "." : `, by task ${mark.by}.`];
 }
 
 function cswOf(request) {

@@ -11,9 +11,11 @@ function paperOf(unit) {
   if (!sheets.has(page)) sheets.set(page, []);
   const list = [...sheets];
   const parts = el("div", { class: "paper" });
-  const portions = inPortions(parts, list.length, PAGES, "pages", (at) => sheetOf(unit, ...list[at], list[at][0] === page ? line : 0));
+  const portions = inPortions(parts, list.length, PAGES, "pages",
+    (at) => sheetOf(unit, ...list[at], list[at][0] === page ? line : 0));
   return {
-    words: [`${counted(printed.length, "line")} on ${counted(withLines, "page")}. The paper is at page ${many(page)}, line ${line}. `,
+    words: [`${counted(printed.length, "line")} on ${counted(withLines, "page")}. `,
+      `The paper is at page ${many(page)}, line ${line}. `,
       `It has room for ${counted(lines, "line")} on ${counted(pages, "page")}.`],
     parts: [notWhole(unit.medium, "lines"), parts,
       printed.length ? listing("Lines in hexadecimal", printed, (it) => [`page ${it.page} line ${it.line}`, it.bytes]) : null],

@@ -11,7 +11,8 @@ function placeLink(unit, step, place) {
   const words = placeInWords(place);
   const id = placeId(unit, step, place);
   return [id ? el("a", { href: `#${id}` }, `▸ ${words}`) : words,
-    id === null ? ", which the medium no longer has" : "", place.equal === undefined ? "" : `: ${place.equal ? "equal" : "not equal"}`];
+    id === null ? ", which the medium no longer has" : "",
+    place.equal === undefined ? "" : `: ${place.equal ? "equal" : "not equal"}`];
 }
 
 function placeInWords({ item, page, line, cylinder, head, record, id, key }) {
@@ -22,7 +23,8 @@ function placeInWords({ item, page, line, cylinder, head, record, id, key }) {
 
 /** The id of a step's place in the drawing of its medium. Null if the medium no longer has it; empty if a line is not drawn. */
 function placeId({ unit, medium }, step, { item, page, line, cylinder, head, record, nth, id, key = "" }) {
-  if (item !== undefined) return itemsOf(medium).some((it) => it.number === item && isMovedBy(step, it)) ? `i${unit}-${item}` : null;
+  if (item !== undefined) return itemsOf(medium).some((it) => it.number === item && isMovedBy(step, it)) ? `i${unit}-${item}`
+    : null;
   if (page !== undefined) return line <= linesOf(medium, page) ? `l${unit}-${page}-${line}` : "";
   const now = recordsOf(medium, { cylinder, head })[nth];
   const isSame = now?.id === (id ?? homeOf(cylinder, head) + hexOf(record, 2)) && now.key === key;

@@ -10,7 +10,8 @@ function linkPosts({ requests }) {
   const parts = lines.textContent.split("\n").map((line) => {
     const [, head, task, unit, number, code] = /^(post (\d+) (\d+) (\d+) )(..)/.exec(line) ?? [];
     if (!code) return line;
-    return el("a", { href: `#q${task}-${unit}-${number}` }, head, el("b", { class: `t${code}` }, code), line.slice(head.length + 2));
+    return el("a", { href: `#q${task}-${unit}-${number}` }, head, el("b", { class: `t${code}` }, code),
+      line.slice(head.length + 2));
   });
   lines.replaceChildren(...parts.flatMap((line, place) => (place ? ["\n", line] : [line])));
 }

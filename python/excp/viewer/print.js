@@ -2,7 +2,8 @@
 
 /** A run with more requests is printed without its panels, and with its folds as they are. */
 const MOST_PRINTED = 80;
-/** The pixels of a sheet in landscape, the events of a window, and the most windows: a longer run has one, which shows its density. */
+/** The pixels of a sheet in landscape, the events of a window, and the most windows: a longer run has one, which shows its
+ * density. */
 const SHEET = 1180;
 const LABELS = 150;
 const WINDOW = 160;
@@ -16,7 +17,8 @@ function printedWindow(model, state, lanes, from, to) {
   const { numbers } = drawing.drawAxis(Math.min(to, model.length), AXIS);
   const row = (label, height, picture) => el("div", { class: "printed-lane" }, label, svg("svg", { width, height }, picture));
   return el("figure", { class: "printed" }, row(el("div", { class: "label" }, "event"), AXIS, svg("g", { class: "axis" }, numbers)),
-    lanes.map((lane) => row(el("div", { class: "label" }, el("b", null, `${lane.owner === "task" ? "Task" : "Unit"} ${lane.number}`),
+    lanes.map((lane) => row(el("div", { class: "label" },
+      el("b", null, `${lane.owner === "task" ? "Task" : "Unit"} ${lane.number}`),
       lane.owner === "unit" ? ` ${model.run.units[lane.number].kind}` : ""), lane.height, drawing.draw(lane, 0))));
 }
 

@@ -64,7 +64,8 @@ function cellsOf(steps) {
     const { loop = [step], times = 1 } = step;
     const isOne = loop.length === 1 && loop[0].ccws.length < 2;
     if (isOne && lastOf(cells)?.at === firstAt(loop[0])) repeat(lastOf(cells), loop[0], times);
-    else cells.push(...transferTo(next, loop[0]), ...(isOne || !step.loop ? cellsOfStep(loop[0], times) : [{ cells: roundOf(loop), times }]));
+    else cells.push(...transferTo(next, loop[0]),
+      ...(isOne || !step.loop ? cellsOfStep(loop[0], times) : [{ cells: roundOf(loop), times }]));
     // the last transfer of a loop is in its last round
     next = isOne || !step.loop ? lastOf(loop).next : null;
   }
@@ -104,9 +105,11 @@ function cellsOfStep(step, count) {
 
 function ccwCell(step, { at, image, name, mnemonic, flags }, count) {
   const isBad = step.rule ? step.rule.at === at : isFailed(step);
-  const lines = [`${mnemonic ?? ""} ${name} ${flags.join(" ")}`.trim(), `at ${at}: ${grouped(image)}`, count > 1 ? `${many(count)} times` : "",
+  const lines = [`${mnemonic ?? ""} ${name} ${flags.join(" ")}`.trim(), `at ${at}: ${grouped(image)}`,
+    count > 1 ? `${many(count)} times` : "",
     step.place ? placeInWords(step.place) : "", isBad ? troubleOfStep(step) : ""];
-  return { at, name: mnemonic ?? (name === "data" ? name : operationOf(image)), count, isBad, tip: lines.filter(Boolean).join("\n") };
+  return { at, name: mnemonic ?? (name === "data" ? name : operationOf(image)), count, isBad,
+    tip: lines.filter(Boolean).join("\n") };
 }
 
 /** The name of a CCW that is no command of its device. */

@@ -2,7 +2,8 @@
  * @file The state of a request at each of its steps: a slider chooses the step.
  *
  * @typedef {{base: string, bytes: string, labels: object}} Area storage before a request, and the labels at its addresses
- * @typedef {Array} State the last step, the place of the program, the bytes that the step has set, and the number of a medium's look
+ * @typedef {Array} State the last step, the place of the program, the bytes that the step has set, and the number of a medium's
+ *   look
  */
 
 /** The bytes of a row, and the most rows that are shown. */
@@ -32,12 +33,14 @@ function statesOf({ task, unit, number, runs }) {
 
 /** A slider from 0 to `most`, with a button on either side. */
 function sliderOf(most, show) {
-  const slider = el("input", { type: "range", min: 0, max: most, value: 0, "aria-label": "Step", oninput: () => show(Number(slider.value)) });
+  const slider = el("input",
+    { type: "range", min: 0, max: most, value: 0, "aria-label": "Step", oninput: () => show(Number(slider.value)) });
   const move = (by) => {
     slider.value = String(Number(slider.value) + by);
     show(Number(slider.value));
   };
-  return el("div", { class: "slider" }, button("‹", "The step before", () => move(-1)), slider, button("›", "The next step", () => move(1)));
+  return el("div", { class: "slider" }, button("‹", "The step before", () => move(-1)), slider,
+    button("›", "The next step", () => move(1)));
 }
 
 /** What the page shows of a step: the step, the place of the program, storage, and the medium. */
@@ -45,14 +48,16 @@ function stateAt(states, { area, steps }, step) {
   const [last, place, , medium] = steps[step];
   return [
     el("p", { class: "code" }, last || "before the first command"), el("p", { class: "code dim" }, place),
-    el("div", { class: "state-parts" }, el("div", { class: "storage code" }, storageRows(states.areas[area], steps.slice(0, step + 1))),
+    el("div", { class: "state-parts" },
+      el("div", { class: "storage code" }, storageRows(states.areas[area], steps.slice(0, step + 1))),
       el("div", { class: "medium code" }, states.media[medium].map((line) => el("div", { class: isAtPlace(line) && "at" }, line)))),
   ];
 }
 
 const isAtPlace = (line) => /^ *>/.test(line);
 
-/** The rows of storage after some steps: bytes that changed, and those that the last step has set. Rows of zeros without a label are left out. */
+/** The rows of storage after some steps: bytes that changed, and those that the last step has set. Rows of zeros without a label
+ * are left out. */
 function storageRows({ base, bytes, labels }, steps) {
   const first = bytes.match(/../g) ?? [];
   const now = [...first];
@@ -67,7 +72,8 @@ function storageRows({ base, bytes, labels }, steps) {
     const row = now.slice(at, at + STATE_ROW);
     const names = row.map((_, nth) => labels[hexOf(bitsOf(base) + at + nth, 6)]).filter(Boolean).join(" ");
     const isWanted = names || row.some((byte, nth) => byte !== "00" || first[at + nth] !== "00");
-    if (isWanted) rows.push(storageRow(hexOf(bitsOf(base) + at, 6), row.map((byte, nth) => byteIn(byte, first[at + nth], isNew.has(at + nth))), row, names));
+    if (isWanted) rows.push(storageRow(hexOf(bitsOf(base) + at, 6),
+      row.map((byte, nth) => byteIn(byte, first[at + nth], isNew.has(at + nth))), row, names));
   }
   const leftOut = rows.length - STATE_ROWS;
   return leftOut > 0 ? [...rows.slice(0, STATE_ROWS), el("div", { class: "dim" }, `and ${counted(leftOut, "row")} more`)] : rows;
@@ -79,5 +85,6 @@ function byteIn(byte, before, isNew) {
 }
 
 const storageRow = (address, bytes, row, names) => el("div", null, el("span", { class: "dim" }, `${address} `),
-  bytes.map((byte, nth) => [nth && nth % 4 === 0 ? " " : "", byte]), " ".repeat(2 * (STATE_ROW - row.length) + (row.length > 4 ? 2 : 3)),
+  bytes.map((byte, nth) => [nth && nth % 4 === 0 ? " " : "", byte]),
+  " ".repeat(2 * (STATE_ROW - row.length) + (row.length > 4 ? 2 : 3)),
   el("i", null, ebcdic(row.join(""))), names ? `  ${names}` : "");

@@ -19,7 +19,8 @@ function stepsOfAttempts(model, request, attempts) {
   });
 }
 
-const rangeOf = (numbers) => (numbers.length > 1 ? `${numbers[0]} to ${lastOf(numbers)}, all alike but for their faults` : numbers[0]);
+const rangeOf = (numbers) =>
+  (numbers.length > 1 ? `${numbers[0]} to ${lastOf(numbers)}, all alike but for their faults` : numbers[0]);
 
 /** @param {object} context the unit, the CCWs of the program that have names, and the last step that searched */
 function stepsTable(context, steps) {
@@ -27,7 +28,8 @@ function stepsTable(context, steps) {
   const shown = leftOut > 0 ? [...steps.slice(0, FIRST_STEPS), null, ...steps.slice(-LAST_STEPS)] : steps;
   return el("div", { class: "wide-table" }, el("table", { class: "steps" },
     el("thead", null, el("tr", null, STEP_HEADS.map((head) => el("th", null, head)))),
-    shown.map((step) => (step ? stepOrLoop(context, step) : el("tbody", null, wholeRow("dim", `… ${counted(leftOut, "step")} more …`))))));
+    shown.map((step) => (step ? stepOrLoop(context, step)
+      : el("tbody", null, wholeRow("dim", `… ${counted(leftOut, "step")} more …`))))));
 }
 
 const wholeRow = (name, ...content) => el("tr", { class: name }, el("td", { colspan: STEP_HEADS.length }, content));
@@ -37,7 +39,8 @@ function stepOrLoop(context, step) {
   return el("tbody", { class: "loop" }, step.loop.map((it) => stepRows(context, it)), wholeRow("times", `× ${many(step.times)}`));
 }
 
-/** The rows of a step: one for each CCW, the first with what the step did; then the rule that a CCW broke, or what a search passed. */
+/** The rows of a step: one for each CCW, the first with what the step did; then the rule that a CCW broke, or what a search
+ * passed. */
 function stepRows(context, step) {
   if (step.place?.equal !== undefined && step.bytes) context.search = step;
   const { ccws, rule, place } = step;
@@ -52,9 +55,11 @@ function stepRows(context, step) {
   ];
 }
 
-const ccwRow = (context, { at, image, name, mnemonic, flags }, isBroken, did) => el("tr", { class: isBroken && "bad", "data-at": at },
+const ccwRow = (context, { at, image, name, mnemonic, flags }, isBroken, did) =>
+  el("tr", { class: isBroken && "bad", "data-at": at },
   el("td", { class: "code" }, at, labelAt(context, at)),
-  el("td", null, did.length ? [el("b", { class: "code" }, mnemonic ?? ""), ` ${name}`] : "…", el("div", { class: "image code dim" }, grouped(image))),
+  el("td", null, did.length ? [el("b", { class: "code" }, mnemonic ?? ""), ` ${name}`] : "…",
+    el("div", { class: "image code dim" }, grouped(image))),
   el("td", { class: "code" }, flags.join(" ")), did);
 
 function brokenRule({ ccws, rule }) {
@@ -80,7 +85,8 @@ function statusOf(step) {
   const { status, residual, next } = step;
   if (status === undefined) return "";
   const trouble = troubleOfStep(step);
-  return [el("span", { class: "code" }, `${status} residual ${residual}`), next ? el("span", { class: "code dim" }, ` → ${next}`) : "",
+  return [el("span", { class: "code" }, `${status} residual ${residual}`),
+    next ? el("span", { class: "code dim" }, ` → ${next}`) : "",
     trouble ? el("div", { class: isFailed(step) && "bad" }, trouble) : ""];
 }
 

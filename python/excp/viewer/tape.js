@@ -44,7 +44,8 @@ function tapeOf(unit) {
     words: [`${counted(items.length - marks, "block")} and ${counted(marks, "tape mark")}, `,
       `${many(sumOf(items))} of ${many(bytes)} bytes. `,
       `The tape is after ${many(place)} of ${counted(total, "item")}.`],
-    parts: [notWhole(medium, "blocks and tape marks"), parts, items.length ? listing("Blocks in hexadecimal", items, rowOfItem) : null],
+    parts: [notWhole(medium, "blocks and tape marks"), parts,
+      items.length ? listing("Blocks in hexadecimal", items, rowOfItem) : null],
     show: (number) => portions.upTo(strips.findIndex((strip) => strip.some((item) => item.number === Number(number)))),
   };
 }
@@ -84,5 +85,6 @@ function stripOf({ unit, medium, isBefore }, items, percent) {
 }
 
 /** The place of the tape. Its words go to the left in the right half of a strip. */
-const headOfTape = (isLate) => el("div", { class: isLate ? "tape-head late" : "tape-head", "data-tip": "The tape is at this place." },
+const headOfTape = (isLate) =>
+  el("div", { class: isLate ? "tape-head late" : "tape-head", "data-tip": "The tape is at this place." },
   el("span", null, "▲ here"));
