@@ -11,12 +11,11 @@ from ..checking.loaded import NO_IMAGES
 from ..findings import printable_name
 from ..programs.children import ended
 from ..programs.telling import note
-from ..script.limits import MOST_SCRIPT_BYTES
 from ..symbols import Assembled, assemble, has_symbols
 from .run import copy_errors, in_memory
 from .script_file import worth_printing
 from .streams import (
-    ERRORS, REJECTED, STANDARD_INPUT, Ended, Rejected, image_in, print_findings, too_long,
+    ERRORS, REJECTED, STANDARD_INPUT, Rejected, print_findings, text_of,
 )
 
 
@@ -46,14 +45,7 @@ def after_fault(
 
 def _text_of(script: str, given: BinaryIO) -> bytes:
     """The text of a script. Raises Ended if it is too long or an image."""
-    file = None if script == STANDARD_INPUT else script
-    text = given.read(MOST_SCRIPT_BYTES + 1)
-    image = image_in(file, text)
-    if image is not None:
-        raise Ended(image)
-    if len(text) > MOST_SCRIPT_BYTES:
-        raise too_long(file)
-    return text
+    return text_of(None if script == STANDARD_INPUT else script, given)
 
 
 def _run_assembled(command: Sequence[str], name: str, text: bytes) -> int:

@@ -63,7 +63,7 @@ def _mode_of(words: List[str]) -> Tuple[Mode, List[str]]:
 def _build(here: Home, words: List[str]) -> int:
     if words[1:] not in ([], ["run"]):
         raise Ended("--build: no more words, or run", USAGE)
-    build(here, "build", *words[1:])
+    build(here, "prove.py", "build", *words[1:])
     return 0
 
 

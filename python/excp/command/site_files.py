@@ -6,7 +6,6 @@ from __future__ import annotations
 import contextlib
 import os
 import signal
-from dataclasses import replace
 from types import FrameType
 from typing import (
     AbstractSet, BinaryIO, Callable, Iterator, List, Mapping, Optional, Sequence, Tuple,
@@ -24,7 +23,7 @@ from ..site import Site
 from .streams import name_of, of_file, say_removed
 from .tools import Order
 from .unit_files import load_images
-from .units import UnitKind
+from .units import UnitKind, with_content
 
 Units = Callable[[], Optional[Sequence[UnitKind]]]
 
@@ -91,11 +90,7 @@ class SiteFiles:
             self._new.finish(self._known)
 
     def _known(self, output: Output) -> Output:
-        """An output with what is saved, if the lines so far declare its unit."""
-        units = self._units() or ()
-        if output.content is not None or output.unit is None or output.unit >= len(units):
-            return output
-        return replace(output, content=units[output.unit].content)
+        return with_content(output, self._units())
 
     def abandon(self) -> None:
         """Removes the new files that are left."""

@@ -63,23 +63,24 @@ def read_script(file: Optional[str]) -> bytes:
     """The text of a script, from a file, or from standard input if it is None. Raises Ended."""
     try:
         with opened_script(file) as script:
-            text = script.read(MOST_SCRIPT_BYTES + 1)
+            return text_of(file, script)
     except OSError:
         raise Ended("script unreadable") from None
-    image = image_in(file, text)
+
+
+def text_of(file: Optional[str], script: BinaryIO) -> bytes:
+    """The text of a script that is open. Raises Ended if it is too long or an image, and
+    OSError."""
+    text = script.read(MOST_SCRIPT_BYTES + 1)
+    image = _image_in(file, text)
     if image is not None:
         raise Ended(image)
     if len(text) > MOST_SCRIPT_BYTES:
-        raise too_long(file)
+        raise of_file(name_of(file), f"the script has more than {MOST_SCRIPT_BYTES:,} bytes")
     return text
 
 
-def too_long(file: Optional[str]) -> Ended:
-    """Why the command ends after it has read more than a script has."""
-    return of_file(name_of(file), f"the script has more than {MOST_SCRIPT_BYTES:,} bytes")
-
-
-def image_in(file: Optional[str], text: bytes) -> Optional[str]:
+def _image_in(file: Optional[str], text: bytes) -> Optional[str]:
     """The sentence on the text of a script that is an image, if it is one."""
     if b"\0" not in text[:_FIRST_BYTES]:
         return None

@@ -8,7 +8,6 @@ from __future__ import annotations
 
 import contextlib
 import os
-from dataclasses import replace
 from enum import IntEnum
 from typing import AbstractSet, Iterator, List, Optional, Tuple
 
@@ -28,7 +27,7 @@ from .streams import (
 )
 from .tools import PROGRAM, Order
 from .unit_files import load_images
-from .units import check_fit
+from .units import check_fit, with_content
 from .whole_script import WholeScript
 
 
@@ -121,11 +120,7 @@ class _Run:
             yield f"save={unit}", self._known(Output(name, None, unit))
 
     def _known(self, output: Output) -> Output:
-        """An output with what is saved, if a line declares its unit; else the program ends."""
-        units = self._source.units() or ()
-        if output.content is not None or output.unit is None or output.unit >= len(units):
-            return output
-        return replace(output, content=units[output.unit].content)
+        return with_content(output, self._source.units())
 
 
 def said(order: Order, source: WholeScript, status: int) -> int:

@@ -2,6 +2,7 @@
 
 from __future__ import annotations
 
+from dataclasses import replace
 from typing import List, Mapping, NamedTuple, Optional, Sequence
 
 from ..device_commands import DISK, PRINTER, TAPE
@@ -57,6 +58,14 @@ def _disk_of(number: int, text: Text) -> Optional[Disk]:
     except Refused:
         return None
     return line if isinstance(line, Disk) else None
+
+
+def with_content(output: targets.Output, units: Optional[Sequence[UnitKind]]) -> targets.Output:
+    """An output with what is saved, if one of the units that are declared so far is its own."""
+    units = units or ()
+    if output.content is not None or output.unit is None or output.unit >= len(units):
+        return output
+    return replace(output, content=units[output.unit].content)
 
 
 def check_fit(

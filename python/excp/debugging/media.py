@@ -5,6 +5,7 @@ from __future__ import annotations
 import enum
 from typing import Callable, List, Mapping, NamedTuple, Optional, Protocol, Tuple
 
+from ..blocks import Seek
 from ..device_commands import Op
 from ..images.media import Disk, Record, TapeItem
 from ..reporting.record import Members
@@ -43,7 +44,7 @@ class Medium(Protocol):
     def go_to(self, place: object) -> None:
         """Takes a place that it had."""
 
-    def begin(self, seek: str) -> None:
+    def begin(self, seek: Seek) -> None:
         """An attempt begins, with this IOBSEEK."""
 
     def given(self, step: Members) -> bytes:
@@ -94,9 +95,8 @@ class DiskState:
         assert isinstance(place, Head)
         self.head = place
 
-    def begin(self, seek: str) -> None:
-        cylinder, head = int(seek[6:10], 16), int(seek[10:14], 16)
-        self.head = Head(cylinder * self.heads + head, 0, Part.INDEX)
+    def begin(self, seek: Seek) -> None:
+        self.head = Head(seek.cylinder * self.heads + seek.head, 0, Part.INDEX)
 
     def given(self, step: Members) -> bytes:
         code = code_of(step)
@@ -165,7 +165,7 @@ class TapeState:
         assert isinstance(place, int)
         self.before = place
 
-    def begin(self, seek: str) -> None:
+    def begin(self, seek: Seek) -> None:
         """A tape stays where it is."""
 
     def given(self, step: Members) -> bytes:
@@ -230,7 +230,7 @@ class PaperState:
         page, line = place
         self.at = page, line
 
-    def begin(self, seek: str) -> None:
+    def begin(self, seek: Seek) -> None:
         """Paper stays where it is."""
 
     def given(self, step: Members) -> bytes:

@@ -7,13 +7,12 @@ from typing import Iterator, NamedTuple, Tuple
 
 from ..device_commands import Flag
 from ..reporting.record import Members
+from ..reporting.step import BACKWARD
 from ..script.ccw import PlacedCcw
 from .working_copy import WorkingCopy
 
 # The bytes of a block, whose address an indirect data address word has, and of such a word.
 _BLOCK, _WORD = 2048, 4
-
-BACKWARD = "down from"
 
 
 class Piece(NamedTuple):

@@ -7,8 +7,8 @@ from array import array
 from dataclasses import dataclass, field
 from typing import Dict, Iterator, List, NamedTuple, Optional, Sequence, Tuple
 
+from ..reporting.kept import KeptText
 from ..reporting.record import EVENTS, TASK_EVENTS, Members, Record, members
-from .kept_lines import KeptLines
 
 # The lines of what is on a medium.
 _MEDIUM = ("medium", "record", "item", "line")
@@ -94,7 +94,7 @@ class Recording:
 
     def __init__(self) -> None:
         # the steps of a request are in a row, whatever happens between them
-        self._steps, self._events = KeptLines(), KeptLines()
+        self._steps, self._events = KeptText(), KeptText()
         self.units: List[UnitRun] = []
         # of each task and unit the places of its posts, by the numbers of the requests
         self._posts: Dict[Tuple[int, int], array[int]] = {}
@@ -116,7 +116,7 @@ class Recording:
 
     def steps(self, request: RequestRun) -> List[str]:
         """The lines of the steps of a request."""
-        return list(self._steps.lines(request.steps, request.commands))
+        return self._steps.lines_at(request.steps, request.commands)
 
     def ending(self, request: RequestRun) -> Members:
         """How a request was posted."""
@@ -131,18 +131,18 @@ class Recording:
         """Adds the post that a task got, in the order of numbers."""
         post = members(line)
         places = self._posts.setdefault((post["task"], post["unit"]), array("Q"))
-        places.append(self._events.add(line))
+        places.append(self.add_event(line))
 
     def add_event(self, line: str) -> int:
         """Adds an event. Returns its place."""
-        return self._events.add(line)
+        return self._events.add(f"{line}\n")
 
     def add_step(self, line: str) -> int:
         """Adds a step, after all others of its unit. Returns its place."""
-        return self._steps.add(line)
+        return self._steps.add(f"{line}\n")
 
     def _members(self, place: int) -> Members:
-        return members(next(self._events.lines(place, 1)))
+        return members(self._events.lines_at(place, 1)[0])
 
 
 def read_recording(record: Record) -> Recording:

@@ -8,18 +8,17 @@ from __future__ import annotations
 
 from typing import List, NamedTuple, Optional, Sequence
 
+from ..checking.requests import IobFields, iob_of
 from ..reporting.record import Members, members
+from ..reporting.step import BACKWARD
 from .job import Job
 from .media import Medium, Undo
-from .moves import BACKWARD, pieces_of
+from .moves import pieces_of
 from .recording import Recording
 from .working_copy import WorkingCopy
 
 # The bytes of an ECB, and where an IOB has its address.
 _ECB_BYTES, _ECB_AT = 4, 5
-
-# The most bytes of a step that its line shows.
-_SHOWN = 16
 
 
 class Changed(NamedTuple):
@@ -73,7 +72,7 @@ class Walk:
         self._done: List[_Done] = []
         self._place_before = self.medium.place()
         if self.request.commands:
-            self.medium.begin(self.seek)
+            self.medium.begin(self.iob.seek)
 
     # The request at hand.
 
@@ -97,17 +96,13 @@ class Walk:
         return self.step > len(self._lines)
 
     @property
-    def seek(self) -> str:
-        """Its IOBSEEK."""
+    def iob(self) -> IobFields:
+        """Its IOB as it is issued."""
         issued = self.job.issued(self.request)
-        image = issued.area.get(issued.iob, 40) or bytes(40)
-        return image[32:].hex()
-
-    @property
-    def start(self) -> int:
-        """The address of its first CCW."""
-        issued = self.job.issued(self.request)
-        return int.from_bytes((issued.area.get(issued.iob, 40) or bytes(40))[17:20], "big")
+        found = iob_of(issued.iob, issued.area)
+        # a job runs only if each IOB lies in its area
+        assert found is not None
+        return found
 
     @property
     def attempt(self) -> int:
@@ -132,7 +127,7 @@ class Walk:
         found: List[str] = []
         last, coming = self.last(), self.coming()
         if self.step in self.request.attempts or last is None:
-            first = [self.start] if coming is not None else []
+            first = [self.iob.start] if coming is not None else []
         else:
             first = []
             found += [last["next"]] if last.get("next") else []
@@ -156,7 +151,7 @@ class Walk:
             return True
         step, place = members(self._lines[self.step]), self.medium.place()
         if self.step and self.step in self.request.attempts:
-            self.medium.begin(self.seek)
+            self.medium.begin(self.iob.seek)
         data, storage = self._moved(step)
         undo = self.medium.act(step, data) if step["ccws"] else None
         self._done.append(_Done(storage, place, undo))

@@ -1,4 +1,4 @@
-"""Builds of the programs, by `tools/prove.py` of the repository."""
+"""Builds of the programs and the library, by tools of the repository."""
 
 from __future__ import annotations
 
@@ -8,6 +8,7 @@ import sys
 
 from .children import ended
 from .home import Home
+from .telling import note
 
 # The exit status if no program could be built, or none is proved.
 NO_PROGRAM = 4
@@ -22,13 +23,16 @@ class NotBuilt(Exception):
         self.text, self.status = text, status
 
 
-def build(home: Home, *words: str) -> None:
-    """Calls `tools/prove.py` with these words. It prints how far it is. Raises NotBuilt."""
+def build(home: Home, tool: str, *words: str, says: str = "") -> None:
+    """Calls a file of tools/ with these words, after this text on it. It prints how far it is.
+    Raises NotBuilt."""
     if home.top is None:
         raise NotBuilt("an installed excp has no sources to build")
     if shutil.which("rt") is None:
         raise NotBuilt("rt, the command of the Rattle kit, is not on the path")
-    prove = str(home.top / "tools" / "prove.py")
-    status = ended([sys.executable, prove, *words], subprocess.DEVNULL)
+    if says:
+        note(says)
+    file = str(home.top / "tools" / tool)
+    status = ended([sys.executable, file, *words], subprocess.DEVNULL)
     if status:
         raise NotBuilt(status=status)

@@ -11,7 +11,7 @@ from typing import Callable, Optional
 from .building import NotBuilt, build
 from .home import LIBRARY, Home
 from .library_choice import choose_library
-from .proof import PROOF, UNPROVED, newer_source, record_of, why_not
+from .proof import PROOF, UNPROVED, is_current, newer_source, record_of, why_not
 from .telling import note
 
 NEWER = (
@@ -88,15 +88,9 @@ def _unproved(
         raise NotBuilt("an installed excp has no sources to build")
     file = home.top / "out" / {"quick": "quick", "try": "tried"}[way] / program
     is_built = os.access(file, os.X_OK)
-    if not is_built or not _is_current(home, file):
+    if not is_built or not is_current(home, file):
         before_build()
         if why is not None and not is_built:
             note(why)
-        build(home, way, program)
+        build(home, "prove.py", way, program)
     return file
-
-
-def _is_current(home: Home, file: Path) -> bool:
-    """Whether no source is newer than this build with nothing proved."""
-    crates = file.with_name(f"{file.name}.crates")
-    return crates.is_file() and newer_source(home, crates, crates.read_text("utf-8")) is None

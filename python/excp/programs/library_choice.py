@@ -4,17 +4,12 @@ installed, or that of the repository, which is built with nothing proved if need
 from __future__ import annotations
 
 import os
-import shutil
-import subprocess
-import sys
 from pathlib import Path
 from typing import Optional
 
-from .building import NotBuilt
-from .children import ended
+from .building import NotBuilt, build
 from .home import LIBRARY, Home
-from .proof import newer_source
-from .telling import note
+from .proof import is_current
 
 # The name in the environment of the file that has the library, if that is named.
 PLACE = "EXCP_LIBRARY"
@@ -43,11 +38,11 @@ def choose_library(home: Home, needs_proof: bool) -> Path:
             raise NotBuilt(_MISSING)
         return home.programs / LIBRARY
     file = library_of(home.top)
-    is_current = _is_current(home, file)
-    if needs_proof and not (is_current and _is_proved(file)):
+    is_right = _is_current(home, file)
+    if needs_proof and not (is_right and _is_proved(file)):
         raise NotBuilt(_NOT_PROVED)
-    if not is_current:
-        _build(home.top)
+    if not is_right:
+        build(home, "library.py", "--unproved", "--quiet", says=_BUILDS)
     return file
 
 
@@ -68,24 +63,11 @@ def library_of(top: Path) -> Path:
 
 def _is_current(home: Home, file: Path) -> bool:
     """Whether no source is newer than the library."""
-    crates = file.with_name(f"{LIBRARY}.crates")
-    if home.top is None or not file.is_file() or not crates.is_file():
+    if home.top is None or not file.is_file() or not is_current(home, file):
         return False
-    time = crates.stat().st_mtime_ns
-    if any((home.top / "c" / it).stat().st_mtime_ns > time for it in _IN_C):
-        return False
-    return newer_source(home, crates, crates.read_text("utf-8")) is None
+    time = file.with_name(f"{LIBRARY}.crates").stat().st_mtime_ns
+    return all((home.top / "c" / it).stat().st_mtime_ns <= time for it in _IN_C)
 
 
 def _is_proved(file: Path) -> bool:
     return file.with_name(f"{LIBRARY}.proved").is_file()
-
-
-def _build(top: Path) -> None:
-    if shutil.which("rt") is None:
-        raise NotBuilt("rt, the command of the Rattle kit, is not on the path")
-    note(_BUILDS)
-    words = [sys.executable, str(top / "tools" / "library.py"), "--unproved", "--quiet"]
-    status = ended(words, subprocess.DEVNULL)
-    if status:
-        raise NotBuilt(status=status)

@@ -52,6 +52,13 @@ def newer_source(home: Home, file: Path, crates: str) -> Optional[str]:
     return None
 
 
+def is_current(home: Home, file: Path) -> bool:
+    """Whether no source is newer than a build with nothing proved, whose crates are in
+    `FILE.crates`."""
+    crates = file.with_name(f"{file.name}.crates")
+    return crates.is_file() and newer_source(home, crates, crates.read_text("utf-8")) is None
+
+
 def _size_and_time(file: Path) -> str:
     """The size of a file, and the nanoseconds of its last change."""
     found = file.stat()

@@ -1,11 +1,12 @@
-"""Text that is kept until it is printed, in a file without a name."""
+"""Text that is kept until it is printed or read again, in a file without a name."""
 
 from __future__ import annotations
 
 import io
 import os
 import tempfile
-from typing import Iterator
+from itertools import islice
+from typing import Iterator, List
 
 # The characters of a block that is read back.
 _BLOCK = 1 << 16
@@ -19,7 +20,8 @@ class NotKept(Exception):
 
 
 class KeptText:
-    """A text that grows, and then is read from its start. Each method raises NotKept."""
+    """A text that grows, and is read from its start or at places in it. Places are in bytes. Each
+    method raises NotKept."""
 
     def __init__(self) -> None:
         try:
@@ -29,15 +31,17 @@ class KeptText:
         self._text = io.TextIOWrapper(self._file, encoding="utf-8", newline="\n")
         self.bytes = 0
 
-    def add(self, text: str) -> None:
-        """Adds to the end of the text."""
+    def add(self, text: str) -> int:
+        """Adds to the end of the text. Returns the place where it was."""
+        place = self.bytes
         try:
             self.bytes += self._file.write(text.encode())
         except OSError as error:
             raise NotKept(error) from None
+        return place
 
     def has_at(self, start: int, part: str) -> bool:
-        """Whether the text has this part at a place in bytes."""
+        """Whether the text has this part at a place."""
         data = part.encode()
         try:
             self._file.seek(start)
@@ -46,6 +50,16 @@ class KeptText:
         except OSError as error:
             raise NotKept(error) from None
         return found == data
+
+    def lines_at(self, place: int, count: int) -> List[str]:
+        """So many lines from a place on, without their line feeds."""
+        try:
+            self._file.seek(place)
+            lines = [line.decode()[:-1] for line in islice(self._file, count)]
+            self._file.seek(0, os.SEEK_END)
+        except OSError as error:
+            raise NotKept(error) from None
+        return lines
 
     def blocks(self) -> Iterator[str]:
         """The text in pieces."""

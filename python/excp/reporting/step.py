@@ -10,6 +10,9 @@ from ..device_commands import FLAGS, command_of
 # The last member of a step, if it was at a place of a medium.
 _PLACE = ',"place":'
 
+# The way of the bytes of a read backward.
+BACKWARD = "down from"
+
 
 class Step(NamedTuple):
     """A step as its line has it: all members but the last brace, without the place; and the place,

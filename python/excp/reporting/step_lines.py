@@ -10,7 +10,7 @@ from ..device_status import NORMAL_END, SENSE_BITS, STATUS_BITS, names_of
 from .folds import Fold, folded
 from .look import Look
 from .record import Members, has_failed, members
-from .step import Step, ccw_names, step_of
+from .step import BACKWARD, Step, ccw_names, step_of
 from .texts import counted
 
 if TYPE_CHECKING:
@@ -24,8 +24,8 @@ LEFT_OUT = f"{_INDENT}--most-steps leaves out the commands from here\n"
 # The hexadecimal digits of a group, and the width of what comes before the source of a CCW.
 _GROUP, _BEFORE_SOURCE = 8, 54
 
-# What the step of a command that skips has in place of its bytes, and the way of a read backward.
-_SKIPPED, _BACKWARD = "skipped", "down from"
+# What the step of a command that skips has in place of its bytes.
+_SKIPPED = "skipped"
 
 
 class _StepText(NamedTuple):
@@ -100,7 +100,7 @@ class StepLines:
             count, way, data = step["moved"], step["way"], self._bytes(step["bytes"])
             if step["more"]:
                 # those that a read backward has put before them are left out
-                data = f"... {data}" if way == _BACKWARD else f"{data} ..."
+                data = f"... {data}" if way == BACKWARD else f"{data} ..."
             place = f"{way} {step['address']}{_label(step['address'], area)}"
             yield f"  {counted(count, 'byte')} {place}: {data}"
 
