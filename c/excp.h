@@ -14,6 +14,8 @@
  * Handles. A call on a handle that is EXCP_SITE_INIT, or whose site was freed, returns EXCP_NO_SITE. Not tested: a copy of a handle,
  * after the site was freed or while another call uses it; a handle whose fields the caller wrote; a pointer to something else.
  *
+ * Storage. excp_blocks.h has the constants of control blocks, commands and status, and functions that store the blocks.
+ *
  * Threads. One call at a time on a site. Sites may be used by several threads, and move between them, if the caller puts a
  * lock around each call (examples/c/threads.c). Calls on different sites may run side by side.
  */

@@ -1,5 +1,5 @@
 #!/usr/bin/env python3
-"""Builds the library for C, libexcp.a and libexcp.so, and copies c/excp.h beside them, into out/library:
+"""Builds the library for C, libexcp.a and libexcp.so, and copies the headers of c/ beside them, into out/library:
 
     tools/library.py               with proved exports
     tools/library.py --unproved    with nothing proved, in some two minutes of one processor; with `--quiet` it prints no last line
@@ -31,6 +31,7 @@ CRATE = "excp_c"
 EXPORTS = f"{TOP}/crates/{CRATE}/out/lib{CRATE}.a"
 RECORD = f"{TOP}/crates/{CRATE}/out/lib{CRATE}.proof"
 HEADER = f"{TOP}/c/excp.h"
+HEADERS = HEADER, f"{TOP}/c/excp_blocks.h"
 SOURCE = f"{TOP}/c/excp.c"
 TO = f"{TOP}/out/library"
 NO_COMPILER = 3
@@ -138,8 +139,10 @@ def keep(folder, is_proved):
     os.makedirs(TO, exist_ok=True)
     for name, to in (f"libexcp.so.{major}", whole), ("libexcp.so", f"libexcp.so.{major}"):
         os.symlink(to, f"{folder}/{name}")
-    shutil.copy(HEADER, folder)
-    for name in whole, f"libexcp.so.{major}", "libexcp.so", "libexcp.a", "excp.h":
+    for header in HEADERS:
+        shutil.copy(header, folder)
+    headers = map(os.path.basename, HEADERS)
+    for name in whole, f"libexcp.so.{major}", "libexcp.so", "libexcp.a", *headers:
         os.replace(f"{folder}/{name}", f"{TO}/{name}")
     write(f"{TO}/libexcp.so.crates", " ".join(prove.crates_below(CRATE)[0]))
     if is_proved:

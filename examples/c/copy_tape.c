@@ -3,6 +3,7 @@
  * A buffer is one piece of storage with two requests: one reads a block of the tape, the other prints it. With two buffers the
  * next block is read while one is printed. All requests are related, so the error at the tape mark also ends the read after it. */
 #include "excp.h"
+#include "excp_blocks.h"
 
 #include <stdio.h>
 #include <string.h>
@@ -15,8 +16,6 @@ enum { BASE = 0x1000, ECB = 0x28, PROGRAM = 0x30, REQUEST = 0x40, BLOCK = UNITS 
 /* The most bytes that are read: one more than a line has, so that a block that does not fit it shows. */
 enum { MOST = 133, LENGTH = BLOCK + MOST };
 
-enum { READ = 0x02, PRINT = 0x09, SUPPRESS_LENGTH = 0x20, ENDED = 0x7F, PERMANENT_ERROR = 0x41, PURGED = 0x48, UNIT_EXCEPTION_END = 0x0D };
-
 /* Says what failed. Returns whether it did. */
 static int failed(const char *what, excp_status status)
 {
@@ -25,26 +24,15 @@ static int failed(const char *what, excp_status status)
     return status != EXCP_OK;
 }
 
-/* Writes a number of some bytes, as the machine does. */
-static void put(uint8_t *bytes, int count, uint32_t number)
-{
-    for (; count > 0; number >>= 8)
-        bytes[--count] = (uint8_t)number;
-}
-
 /* Writes the request to a unit into a buffer: an IOB of a related request of DCB 1, an ECB, and a program of one CCW. */
 static void put_request(uint8_t *buffer, unsigned unit, uint8_t command, uint16_t count)
 {
-    uint8_t *iob = buffer + unit * REQUEST, *ccw = iob + PROGRAM;
+    uint8_t *request = buffer + unit * REQUEST;
     uint32_t at = BASE + unit * REQUEST;
-    memset(iob, 0, REQUEST);
-    put(iob + 5, 3, at + ECB);
-    put(iob + 17, 3, at + PROGRAM);
-    put(iob + 21, 3, 1);
-    ccw[0] = command;
-    put(ccw + 1, 3, BASE + BLOCK);
-    ccw[4] = SUPPRESS_LENGTH;
-    put(ccw + 6, 2, count);
+    excp_iob iob = { .ecb = at + ECB, .start = at + PROGRAM, .dcb = 1 };
+    memset(request, 0, REQUEST);
+    excp_store_iob(request, &iob);
+    excp_store_ccw(request + PROGRAM, command, BASE + BLOCK, EXCP_FLAG_SLI, count);
 }
 
 static int issue(excp_site *site, uint16_t unit, const uint8_t *buffer)
@@ -57,18 +45,18 @@ static int issue(excp_site *site, uint16_t unit, const uint8_t *buffer)
 /* Issues what follows the end of a request. Returns whether something failed. */
 static int follow(excp_site *site, const excp_post *post, uint8_t *buffer, int *at_mark)
 {
-    if (post->unit == TAPE && post->code == ENDED && post->residual > 0) {
-        put_request(buffer, PRINTER, PRINT, (uint16_t)(MOST - post->residual));
+    if (post->unit == TAPE && post->code == EXCP_CODE_ENDED && post->residual > 0) {
+        put_request(buffer, PRINTER, EXCP_OP_PR1, (uint16_t)(MOST - post->residual));
         return issue(site, PRINTER, buffer);
     }
-    if (post->unit == TAPE && post->code == PERMANENT_ERROR && post->unit_status == UNIT_EXCEPTION_END) {
+    if (post->unit == TAPE && post->code == EXCP_CODE_PERMANENT_ERROR && post->unit_status == EXCP_UNIT_EXCEPTION_END) {
         *at_mark = 1;
         return 0;
     }
-    if (*at_mark && (post->unit == TAPE ? post->code == PURGED : post->code == ENDED))
+    if (*at_mark && (post->unit == TAPE ? post->code == EXCP_CODE_PURGED : post->code == EXCP_CODE_ENDED))
         return 0;
-    if (post->unit == PRINTER && post->code == ENDED) {
-        put_request(buffer, TAPE, READ, MOST);
+    if (post->unit == PRINTER && post->code == EXCP_CODE_ENDED) {
+        put_request(buffer, TAPE, EXCP_OP_RDF, MOST);
         return issue(site, TAPE, buffer);
     }
     fprintf(stderr, "copy_tape: unit %u ended with code %02X\n", (unsigned)post->unit, (unsigned)post->code);
@@ -80,7 +68,7 @@ static int copy(excp_site *site)
 {
     uint8_t buffer[LENGTH] = { 0 };
     int at_mark = 0;
-    put_request(buffer, TAPE, READ, MOST);
+    put_request(buffer, TAPE, EXCP_OP_RDF, MOST);
     if (issue(site, TAPE, buffer) || issue(site, TAPE, buffer))
         return 1;
     for (;;) {

@@ -1,12 +1,13 @@
 /* Two threads share one site under a mutex. Each has a task, which issues requests and collects their posts. The first thread
  * also serves the unit. A condition tells each that the other one changed something. */
 #include "excp.h"
+#include "excp_blocks.h"
 
 #include <pthread.h>
 #include <stdio.h>
 #include <string.h>
 
-enum { REQUESTS = 1000, TASKS = 2, BASE = 0x1000, ECB = 0x28, PROGRAM = 0x30, LENGTH = 0x38, ENDED = 0x7F };
+enum { REQUESTS = 1000, TASKS = 2, BASE = 0x1000, ECB = 0x28, PROGRAM = 0x30, LENGTH = 0x38 };
 
 typedef struct {
     pthread_mutex_t lock; /* of all that follows: one call at a time on a site */
@@ -20,11 +21,10 @@ typedef struct {
 /* An IOB of DCB 1, its ECB, and a program of one no-operation. */
 static void put_request(uint8_t *storage)
 {
-    static const uint8_t iob[40] = { [0] = 0x42, [6] = BASE >> 8, [7] = ECB, [18] = BASE >> 8, [19] = PROGRAM, [23] = 1 };
-    static const uint8_t no_operation[8] = { 0x03, 0, BASE >> 8, 0, 0, 0, 0, 1 };
+    const excp_iob iob = { .ecb = BASE + ECB, .start = BASE + PROGRAM, .dcb = 1, .flags = EXCP_IOB_UNRELATED };
     memset(storage, 0, LENGTH);
-    memcpy(storage, iob, sizeof iob);
-    memcpy(storage + PROGRAM, no_operation, sizeof no_operation);
+    excp_store_iob(storage, &iob);
+    excp_store_ccw(storage + PROGRAM, EXCP_OP_NOP, BASE, 0, 1);
 }
 
 /* Notes a call that failed. Returns whether it did. Under the lock. */
@@ -54,7 +54,7 @@ static int collect(shared *all, uint16_t task)
     excp_status status = excp_next_post(&all->site, task, &post, storage, sizeof storage);
     if (status == EXCP_NO_POST || failed(all, "next post", status))
         return 0;
-    if (post.code != ENDED)
+    if (post.code != EXCP_CODE_ENDED)
         all->failed = 1;
     all->collected[task]++;
     return 1;

@@ -1,8 +1,9 @@
 """The library for C: c/excp.h, c/excp.c and crates/excp_c say the same, and programs of C that use what tools/library.py builds.
 
 The functions, structs and statuses of the header are compared with the exports, their structs and their statuses, by name and
-type: both compilers lay a struct out by the order and the types of its fields. tests/cases/c/*.c are linked with each library
-and run; a program that finds a fault prints it and ends with status 1. layout.c has the library fill each struct.
+type: both compilers lay a struct out by the order and the types of its fields. tests/c_blocks.py judges c/excp_blocks.h.
+tests/cases/c/*.c are linked with each library and run; a program that finds a fault prints it and ends with status 1. layout.c
+has the library fill each struct.
 """
 
 import importlib
@@ -12,6 +13,7 @@ import shutil
 import sys
 import tempfile
 
+import c_blocks
 from harness import CASES, TOP, Case, Failed, Skipped, expect_text, read, require, run
 
 HEADER = f"{TOP}/c/excp.h"
@@ -115,6 +117,30 @@ def statuses_agree():
     require(header == {**exports, **OWN_STATUSES}, f"{header} in excp.h, {exports} and {OWN_STATUSES} in the exports")
 
 
+def constants_agree():
+    """The constants of excp_blocks.h are those of the package and of the crates, and there is no other."""
+    header, package, crates = c_blocks.constants(), c_blocks.of_package(), c_blocks.of_crates()
+    require(len(crates) > 10, f"{len(crates)} constants of the crates")
+    shared = {key: crates[key] for key in crates if key in package}
+    require(len(shared) > 8 and package == {**package, **shared}, f"the package and the crates differ: {differing(package, crates)}")
+    require(header == {**package, **crates}, f"excp_blocks.h has others: {differing(header, {**package, **crates})}")
+
+
+def blocks_agree(language, *words):
+    """The functions of excp_blocks.h store the bytes that the package makes, in C and in C++."""
+    found = compiler() if language == "c" else shutil.which("g++") or shutil.which("clang++")
+    if not found:
+        raise Skipped("no C++ compiler (g++ or clang++)")
+    with tempfile.TemporaryDirectory() as folder:
+        with open(f"{folder}/blocks.{language}", "w", encoding="ascii") as file:
+            file.write(c_blocks.program())
+        strict = [*words, "-Wall", "-Wextra", "-Werror", "-pedantic", f"-I{TOP}/c"]
+        ran = run([found, *strict, f"{folder}/blocks.{language}", "-o", f"{folder}/blocks"])
+        require(ran.status == 0, "it does not compile without a warning", ran)
+        ran = run([f"{folder}/blocks"])
+        expect_text("other bytes", ran, c_blocks.printed(), ran.out)
+
+
 def compiler():
     """The C compiler; without one no case can be judged that needs it."""
     found = os.environ.get("CC") or shutil.which("cc") or shutil.which("gcc")
@@ -124,8 +150,10 @@ def compiler():
 
 
 def built():
-    """Builds the library, or finds it built."""
+    """Builds the library, or finds it built. Takes one that `tools/library.py --unproved` built if the exports are not proved."""
     compiler()
+    if os.path.exists(f"{LIBRARY}/libexcp.so") and not os.path.exists(f"{CRATE}/out/libexcp_c.proof"):
+        return
     ran = run([f"{TOP}/tools/library.py"], cwd=TOP, timeout=BUILD)
     require(ran.status == 0, "tools/library.py fails", ran)
 
@@ -249,7 +277,7 @@ def installs():
                  for it in files]
         shared = next((it for it in names if re.fullmatch(r"lib/libexcp\.so\.\d+\.\d+", it)), "")
         number = shared.rpartition(".")[0]
-        due = ["include/excp.h", "lib/libexcp.a", "lib/libexcp.so", number, shared, "lib/pkgconfig/excp.pc"]
+        due = ["include/excp.h", "include/excp_blocks.h", "lib/libexcp.a", "lib/libexcp.so", number, shared, "lib/pkgconfig/excp.pc"]
         require(sorted(names) == sorted(due), f"it installs {sorted(names)}")
         require("prefix=/opt/excp\n" in read(f"{folder}/image/opt/excp/lib/pkgconfig/excp.pc"), "another prefix in excp.pc")
         builds_by(folder, number)
@@ -290,6 +318,10 @@ def cases(setup):
     yield Case("functions", functions_agree, "c/excp.h")
     yield Case("structs", structs_agree, "c/excp.h")
     yield Case("statuses", statuses_agree, "c/excp.h")
+    yield Case("constants of blocks", constants_agree, "c/excp_blocks.h, by docs/SPECIFICATION.md")
+    for language, words in ("c", ["-std=c99"]), ("cpp", ["-std=c++11"]):
+        judge = lambda l=language, w=words: blocks_agree(l, *w)
+        yield Case(f"bytes of blocks in {language}", judge, "c/excp_blocks.h, by docs/SPECIFICATION.md")
     yield Case("names of the shared library", exports_alone, "c/excp.h", "library")
     for name in sorted(it.removesuffix(".c") for it in os.listdir(f"{CASES}/c") if it.endswith(".c")):
         for linked in "static", "shared":

@@ -292,10 +292,11 @@ def is_made(compiler):
             ends_well([f"{folder}/{os.path.basename(program)}"], prints)
 
 
-def is_a_header(compiler, language):
-    """The header compiles alone, as C or as C++."""
+def is_a_header(name, compiler, language):
+    """A header compiles alone, as C or as C++."""
     needs(compiler)
-    ran = run([compiler, "-x", *language, "-Wall", "-Wextra", "-Werror", "-pedantic", "-fsyntax-only", f"{FOLDER}/excp.h"])
+    words = ["-Wall", "-Wextra", "-Werror", "-pedantic", "-fsyntax-only", "-include", f"{FOLDER}/{name}"]
+    ran = run([compiler, *words, "-x", *language, os.devnull])
     require((ran.status, ran.out, ran.err) == (0, "", ""), "it does not compile without a warning", ran)
 
 
@@ -395,7 +396,9 @@ def in_c(setup):
     judge = lambda: runs_in_valgrind(FUZZ, "3", str(seconds), seconds=300 + 2 * seconds)
     yield Case(f"{FUZZ} under valgrind", judge, origin)
     for compiler, language in ("gcc", ["c", "-std=c99"]), ("clang", ["c", "-std=c99"]), ("g++", ["c++"]), ("clang++", ["c++"]):
-        yield Case(f"excp.h by {compiler}", lambda c=compiler, l=language: is_a_header(c, l), origin)
+        for name in "excp.h", "excp_blocks.h":
+            judge = lambda n=name, c=compiler, l=language: is_a_header(n, c, l)
+            yield Case(f"{name} by {compiler}", judge, f"c/{name}")
 
 
 def cases(setup):
