@@ -54,10 +54,33 @@ VALGRIND = ["valgrind", "-q", "--soname-synonyms=somalloc=nouserintercepts", "--
             "--show-leak-kinds=definite,indirect,possible", "--errors-for-leak-kinds=definite,indirect,possible"]
 
 # The C programs with their sources, and what they print if that is known.
+#
+# search_disk, by docs/SPECIFICATION.md. Each program is a search at 1030, a transfer at 1038, and a read or a write at 1040.
+# - Request 1: the fault ends the first search with unit check and sense 0800, which is tried again (6.1). Then a search passes R0,
+#   one finds record 1, and the read moves its 8 bytes: code 7F, the CCW at 1040 plus 8, unit status 0C, nothing residual (4.13).
+# - Request 2: it runs, and one search was done. The halt posts it 48 (7.4), with the status 0C00 of a running program, and the
+#   CCW address and the residual count of that search: 1038, and 0 of its 5 bytes (5.3). Nothing was read.
+# - Requests 3 and 4 end as 1 does. The image has the header of 512 bytes and the track of 64 (docs/FORMATS.md), so does not grow.
 PRINTS = {
     "examples/c/copy_tape": read(f"{TOP}/crates/print_tape/stdout"),
     "examples/c/threads": "task 0: 1000 requests ended\ntask 1: 1000 requests ended\n",
+    "examples/c/search_disk": """pending 1 again 1
+post 0 0 1 7F 001048 0C00 0000 0000 FIRST...
+active 1
+post 0 0 2 48 001038 0C00 0000 0000 ........
+post 0 0 3 7F 001048 0C00 0000 0000 CHANGED.
+image of 576 bytes: CHANGED.
+post 0 0 4 7F 001048 0C00 0000 0000 CHANGED.
+""",
 }
+
+# What the examples in C++ and Rust print, by docs/SPECIFICATION.md.
+#
+# read_tape: a read of 16 bytes moves the 5 and the 12 of the blocks, so 11 and 4 are residual, and SLI keeps 7F (4.14). The read at
+# the mark is unit exception, unit status 0D, which is posted 41 (6.1, 10.5).
+# print_line: one command, the CCW at 1030, so the CSW has 1038. The ECB has the code in its first byte (3.5).
+READ_TAPE = "000B FIRST\n0004 SECOND BLOCK\ncode 41, unit status 0D\n"
+PRINT_LINE = "request 1 of DCB 1 at unit 0: code 7F at 001038\nposts 1, commands 1, ECB 7F\n"
 OUT_OF_MEMORY, FUZZ, LONG_USE = "tests/library/out_of_memory", "tests/library/fuzz", "tests/library/long_use"
 REQUESTS = "tests/library/requests"
 
@@ -292,6 +315,38 @@ def is_made(compiler):
             ends_well([f"{folder}/{os.path.basename(program)}"], prints)
 
 
+def saves_its_disk():
+    """search_disk writes the image that docs/FORMATS.md says: record 2 has other data, and all else is as it was."""
+    built = compiled("gcc", "examples/c/search_disk", "plain")
+    count = lambda number: bytes([0, 0, 0, 0, number, 0, 0, 8])
+    header = b"CKD_P370" + bytes([1, 0, 0, 0, 64, 0, 0, 0, 0x90])
+    track = bytes(5) + count(0) + bytes(8) + count(1) + b"FIRST..." + count(2) + b"CHANGED." + b"\xFF" * 8
+    with tempfile.TemporaryDirectory() as folder:
+        ends_well([built, f"{folder}/image"], PRINTS["examples/c/search_disk"])
+        require(images.bytes_of(f"{folder}/image") == header.ljust(512, b"\0") + track.ljust(64, b"\0"), "another image")
+
+
+def runs_in_cpp(compiler):
+    """The example in C++ compiles without a warning, and runs."""
+    needs(compiler)
+    os.makedirs(BUILT, exist_ok=True)
+    built = f"{BUILT}/read_tape-{compiler}"
+    strict = ["-std=c++11", "-Wall", "-Wextra", "-Werror", "-pedantic", f"-I{FOLDER}"]
+    ran = run([compiler, *strict, f"{TOP}/examples/cpp/read_tape.cpp", "-o", built, *SHARED], timeout=300)
+    require((ran.status, ran.out, ran.err) == (0, "", ""), "it does not compile without a warning", ran)
+    ends_well([built], READ_TAPE)
+
+
+def runs_in_rust():
+    """The example in Rust compiles without a warning, and runs."""
+    needs("rustc")
+    os.makedirs(BUILT, exist_ok=True)
+    words = ["rustc", "-D", "warnings", "-L", FOLDER, "-C", f"link-arg=-Wl,-rpath,{FOLDER}", "-o", f"{BUILT}/print_line"]
+    ran = run([*words, f"{TOP}/examples/rust/print_line.rs"], timeout=300)
+    require((ran.status, ran.out, ran.err) == (0, "", ""), "it does not compile without a warning", ran)
+    ends_well([f"{BUILT}/print_line"], PRINT_LINE)
+
+
 def is_a_header(name, compiler, language):
     """A header compiles alone, as C or as C++."""
     needs(compiler)
@@ -391,6 +446,10 @@ def in_c(setup):
     for program in *PRINTS, OUT_OF_MEMORY:
         yield Case(f"{program} with libexcp.a", lambda p=program: runs_static("gcc", p), origin)
         yield Case(f"{program} under valgrind", lambda p=program: runs_in_valgrind(p), origin)
+    yield Case("examples/c/search_disk saves its disk", saves_its_disk, "docs/FORMATS.md")
+    for compiler in "g++", "clang++":
+        yield Case(f"examples/cpp/read_tape with {compiler}", lambda c=compiler: runs_in_cpp(c), "docs/SPECIFICATION.md")
+    yield Case("examples/rust/print_line with rustc", runs_in_rust, "docs/SPECIFICATION.md")
     yield Case("examples/c/threads under helgrind", shares_by_its_lock, origin)
     yield Case("the cost of a request", costs_little, "docs/CLIENT.md, What a call costs")
     judge = lambda: runs_in_valgrind(FUZZ, "3", str(seconds), seconds=300 + 2 * seconds)
