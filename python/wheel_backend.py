@@ -15,6 +15,9 @@ HERE = os.path.dirname(os.path.realpath(__file__))
 PACKAGE = "excp"
 LIBRARY = "libexcp.so"
 
+# The groups of entry points, and their tables of pyproject.toml.
+ENTRY_POINTS = {"console_scripts": "project.scripts", "pytest11": "project.entry-points.pytest11"}
+
 # The files of the package: its modules, its pages of help, and the viewer of pages.
 KINDS = ".py", ".typed", ".txt", ".css", ".html", ".js"
 
@@ -43,6 +46,11 @@ def dist_info():
     return f"{PACKAGE}-{project()['version']}.dist-info"
 
 
+def lines_of(words):
+    """The lines of entry points."""
+    return [f"{name} = {call}" for name, call in words.items()]
+
+
 def metadata():
     """The files of the metadata, by name."""
     its = project()
@@ -50,8 +58,8 @@ def metadata():
     lines.append(f"Requires-Python: {its['requires-python']}")
     purelib = "false" if built_library() else "true"
     wheel = ["Wheel-Version: 1.0", "Generator: wheel_backend", f"Root-Is-Purelib: {purelib}", f"Tag: {tag()}"]
-    scripts = ["[console_scripts]", *(f"{name} = {call}" for name, call in project("project.scripts").items())]
-    files = {"METADATA": lines, "WHEEL": wheel, "entry_points.txt": scripts}
+    points = [line for group, table in ENTRY_POINTS.items() for line in (f"[{group}]", *lines_of(project(table)))]
+    files = {"METADATA": lines, "WHEEL": wheel, "entry_points.txt": points}
     return {f"{dist_info()}/{name}": "\n".join([*its, ""]).encode() for name, its in files.items()}
 
 

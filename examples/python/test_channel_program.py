@@ -43,9 +43,9 @@ def test_record_is_rewritten():
         area = rewrite(dcb, 1, b"CHANGED.")
         site.issue(0, dcb, area)
         disk.serve()
-        post = site.next_post(0)
+        post = site.post(0)
         assert post.code == Code.ENDED
-        assert post.at(area["NEXT"], 8) == b"SECOND.."
+        assert post.at("NEXT", 8) == b"SECOND.."
         assert [it.data for it in disk.records(0, 0)[1:]] == [b"CHANGED.", b"SECOND.."]
 
 
@@ -54,7 +54,7 @@ def test_missing_record_is_not_written():
         disk, dcb = a_disk(site)
         site.issue(0, dcb, rewrite(dcb, 9, b"CHANGED."))
         disk.serve()
-        post = site.next_post(0)
+        post = site.post(0)
         assert (post.code, post.sense) == (Code.PERMANENT_ERROR, 0x0008)  # no record found
         assert [it.data for it in disk.records(0, 0)[1:]] == [b"FIRST...", b"SECOND.."]
 
@@ -68,7 +68,7 @@ def test_data_check_is_tried_again():
         assert str(disk.run()) == "Ran 1 pending"
         assert str(disk.interrupt()) == "Again 0 0 1"
         disk.serve()
-        assert site.next_post(0).code == Code.ENDED
+        assert site.post(0).code == Code.ENDED
 
 
 def test_purge_halts_an_active_program():
@@ -80,7 +80,7 @@ def test_purge_halts_an_active_program():
         disk.run(1)
         assert str(dcb.purge(excp.Mode.HALT)) == "Active 0 0 1"
         disk.serve()
-        assert site.next_post(0).code == Code.PURGED
+        assert site.post(0).code == Code.PURGED
 
 
 if __name__ == "__main__":

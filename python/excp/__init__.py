@@ -13,17 +13,19 @@ from importlib import import_module
 from typing import TYPE_CHECKING
 
 if TYPE_CHECKING:
-    from .blocks import Area, Ccw, Code, Csw, Extent, Flag, Iob, Op, Seek
+    from .area import Area
+    from .blocks import Ccw, Code, Csw, Extent, Flag, Iob, Op, Seek
     from .errors import (
         BadImage, BadMedium, BadNumber, BadRequest, ExcpError, Full, InError, LibraryNotFound,
-        NoDcb, NoImage, NoMemory, NoNumber, NoSite, NotIdle, Status,
+        NoDcb, NoImage, NoMemory, NoNumber, NoPost, NoSite, NotIdle, Status,
     )
     from .library import is_proved, message, version
+    from .posts import Post
     from .site import Site
     from .unit import Dcb, Unit
     from .values import (
         TAPE_MARK, Active, Answer, DcbPhase, DcbState, Device, Entry, EntryKind, Fault, Kind, Line,
-        Method, Mode, Name, Post, Record, Served, ServedEnd, UnitState,
+        Method, Mode, Name, Record, Served, ServedEnd, UnitState,
     )
 
 # The version of this package. That of the library is `version()`.
@@ -31,14 +33,16 @@ __version__ = "1.1"
 
 # The public names of each module.
 _NAMES = {
-    "blocks": "Area Ccw Code Csw Extent Flag Iob Op Seek",
+    "area": "Area",
+    "blocks": "Ccw Code Csw Extent Flag Iob Op Seek",
     "errors": "BadImage BadMedium BadNumber BadRequest ExcpError Full InError LibraryNotFound "
-    "NoDcb NoImage NoMemory NoNumber NoSite NotIdle Status",
+    "NoDcb NoImage NoMemory NoNumber NoPost NoSite NotIdle Status",
     "library": "is_proved message version",
+    "posts": "Post",
     "site": "Site",
     "unit": "Dcb Unit",
     "values": "TAPE_MARK Active Answer DcbPhase DcbState Device Entry EntryKind Fault Kind Line "
-    "Method Mode Name Post Record Served ServedEnd UnitState",
+    "Method Mode Name Record Served ServedEnd UnitState",
 }
 
 _MODULES = {name: module for module, names in _NAMES.items() for name in names.split()}
@@ -47,9 +51,9 @@ __all__ = [
     "TAPE_MARK", "Active", "Answer", "Area", "BadImage", "BadMedium", "BadNumber", "BadRequest",
     "Ccw", "Code", "Csw", "Dcb", "DcbPhase", "DcbState", "Device", "Entry", "EntryKind",
     "ExcpError", "Extent", "Fault", "Flag", "Full", "InError", "Iob", "Kind", "LibraryNotFound",
-    "Line", "Method", "Mode", "Name", "NoDcb", "NoImage", "NoMemory", "NoNumber", "NoSite",
-    "NotIdle", "Op", "Post", "Record", "Seek", "Served", "ServedEnd", "Site", "Status", "Unit",
-    "UnitState", "is_proved", "message", "version",
+    "Line", "Method", "Mode", "Name", "NoDcb", "NoImage", "NoMemory", "NoNumber", "NoPost",
+    "NoSite", "NotIdle", "Op", "Post", "Record", "Seek", "Served", "ServedEnd", "Site", "Status",
+    "Unit", "UnitState", "is_proved", "message", "version",
 ]
 
 

@@ -1,4 +1,4 @@
-"""Control blocks as they lie in storage, and the storage of a request. All numbers are big-endian.
+"""Control blocks as they lie in storage. All numbers are big-endian.
 
 docs/SPECIFICATION.md has the layouts (rules 3.2 to 3.9, 4.1 and 4.2), and docs/MANUAL.md explains
 them.
@@ -8,10 +8,11 @@ from __future__ import annotations
 
 import enum
 import struct
-from dataclasses import dataclass, field, replace
-from typing import Dict, List, SupportsIndex, Tuple, Union
+from dataclasses import dataclass, field
+from typing import SupportsIndex, Tuple, Union
 
-from .device_commands import Flag as Flag, Op as Op
+from .device_commands import FLAGS, Flag as Flag, Op as Op
+from .device_status import STATUS_BITS, with_names
 
 # An address, or the label of an area that stands for one.
 Address = Union[int, str]
@@ -24,6 +25,23 @@ class Code(enum.IntEnum):
     PERMANENT_ERROR = 0x41
     EXTENT_VIOLATED = 0x42
     PURGED = 0x48
+
+    def __repr__(self) -> str:
+        return f"<Code.{self.name}: 0x{self:02X}>"
+
+
+_CODES = frozenset(Code)
+
+
+def code_of(byte: int) -> int:
+    """The `Code` of a byte, or the byte if it is no code, as where nothing was posted."""
+    return Code(byte) if byte in _CODES else byte
+
+
+def code_text(code: int) -> str:
+    """A completion code with its name, such as `7F (ended)`."""
+    name = f" ({Code(code).name.lower().replace('_', ' ')})" if code in _CODES else ""
+    return f"{code:02X}{name}"
 
 
 @dataclass(frozen=True)
@@ -44,6 +62,10 @@ class Ccw:
         word, flags, count = struct.unpack(">IBxH", image)
         return Ccw(word >> 24, word & 0xFFFFFF, flags, count)
 
+    def __repr__(self) -> str:
+        command = f"Op.{self.command}" if isinstance(self.command, Op) else f"0x{self.command:02X}"
+        return f"Ccw({command}, {_shown(self.address)}, {_flags(self.flags)}, {self.count})"
+
 
 @dataclass(frozen=True)
 class Csw:
@@ -61,6 +83,18 @@ class Csw:
     @staticmethod
     def from_bytes(image: bytes) -> Csw:
         return Csw(*struct.unpack(">IBBH", b"\0" + image))
+
+    @property
+    def status(self) -> int:
+        """Unit status and subchannel status as two bytes."""
+        return self.unit << 8 | self.sub
+
+    def __str__(self) -> str:
+        return f"{self.address:06X} {self.status:04X} {self.residual:04X}"
+
+    def __repr__(self) -> str:
+        status = with_names(self.status, STATUS_BITS)
+        return f"<Csw {self.address:06X}, status {status}, residual {self.residual:04X}>"
 
 
 @dataclass(frozen=True)
@@ -112,6 +146,11 @@ class Iob:
         ecb, start, dcb = (it & 0xFFFFFF for it in (word, start, dcb))
         return Iob(ecb, start, dcb, seek, flags, sense, word >> 24, csw)
 
+    def __repr__(self) -> str:
+        pointers = f"ecb={_shown(self.ecb)}, start={_shown(self.start)}, dcb={self.dcb!r}"
+        ended = f"sense=0x{self.sense:04X}, completion=0x{self.completion:02X}, csw={self.csw!r}"
+        return f"Iob({pointers}, seek={self.seek!r}, flags=0x{self.flags:02X}, {ended})"
+
 
 @dataclass(frozen=True)
 class Extent:
@@ -145,128 +184,21 @@ class Extent:
         block = word & 0xFFFFFF
         return Extent(start_cylinder, start_head, end[0], end[1], tracks, word >> 24, block, bin_)
 
-
-class Area:
-    """The storage of a request, laid out piece by piece from `base` on, which is a multiple of 8.
-
-    Each piece gets a label. A piece may name a label that comes later, as in
-
-        area = Area(0x1000)
-        area.iob(dcb=dcb, seek=Seek(cylinder=0, head=0))
-        area.ecb()
-        search = Ccw(Op.SIDE, "ID", Flag.CC, 5), Ccw(Op.TIC, "CP")
-        area.program(*search, Ccw(Op.RD, "BUFFER", count=4))
-        area.data("ID", bytes([0, 0, 0, 0, 1]))
-        area.space("BUFFER", 4)
-
-    `bytes(area)` is the storage, and `area["BUFFER"]` the address of a label.
-    """
-
-    def __init__(self, base: int = 0x1000, storage: bytes = b"") -> None:
-        """An area that begins with these bytes."""
-        self.base = base
-        self._storage = bytearray(storage)
-        self._labels: Dict[str, int] = {}
-        self._pieces: List[Tuple[int, Union[Ccw, Iob]]] = []
-
-    def iob(
-        self,
-        label: str = "IOB",
-        *,
-        ecb: Address = "ECB",
-        start: Address = "CP",
-        dcb: SupportsIndex = 1,
-        related: bool = False,
-        seek: Seek = Seek(),
-    ) -> int:
-        """Lays out an IOB of a request that is unrelated, or related."""
-        flags = Iob.COMMAND_CHAINING | (0 if related else Iob.UNRELATED)
-        return self._lay(label, 4, Iob(ecb, start, dcb, seek, flags))
-
-    def ecb(self, label: str = "ECB") -> int:
-        """Lays out an ECB that was not posted."""
-        return self.data(label, bytes(4), 4)
-
-    def program(self, *ccws: Ccw, label: str = "CP") -> int:
-        """Lays out a channel program."""
-        if not ccws:
-            raise ValueError("a channel program has at least one CCW")
-        at = self._lay(label, 8, ccws[0])
-        for ccw in ccws[1:]:
-            self._lay("", 8, ccw)
-        return at
-
-    def data(self, label: str, content: bytes, boundary: int = 1) -> int:
-        """Lays out these bytes, on a multiple of `boundary`."""
-        at = self._begin(label, boundary)
-        self._storage += content
-        return at
-
-    def space(self, label: str, length: int, boundary: int = 1) -> int:
-        """Lays out `length` zeros."""
-        return self.data(label, bytes(length), boundary)
-
-    def store(self, at: Address, content: bytes) -> None:
-        """Replaces bytes. All labels that pieces name have to be laid out."""
-        start, storage = self._resolved(at) - self.base, bytearray(bytes(self))
-        if not 0 <= start <= start + len(content) <= len(storage):
-            raise ValueError(f"{len(content)} bytes at {at!r} are not in the area")
-        storage[start : start + len(content)] = content
-        self._storage = storage
-
-    def at(self, at: Address, length: int) -> bytes:
-        """Bytes of the storage."""
-        return piece_of(bytes(self), self.base, self._resolved(at), length)
-
-    def __getitem__(self, label: str) -> int:
-        return self._labels[label]
-
-    def __len__(self) -> int:
-        return len(self._storage)
-
-    def __bytes__(self) -> bytes:
-        for place, piece in self._pieces:
-            image = self._with_addresses(piece).to_bytes()
-            self._storage[place : place + len(image)] = image
-        # labels keep their addresses, so what is laid out stays
-        self._pieces = []
-        return bytes(self._storage)
-
-    def _begin(self, label: str, boundary: int) -> int:
-        at = self.base + len(self._storage)
-        gap = -at % boundary
-        if label in self._labels:
-            raise ValueError(f"the label {label!r} is there twice")
-        if label:
-            self._labels[label] = at + gap
-        self._storage += bytes(gap)
-        return at + gap
-
-    def _lay(self, label: str, boundary: int, piece: Union[Ccw, Iob]) -> int:
-        at = self._begin(label, boundary)
-        self._pieces.append((at - self.base, piece))
-        self._storage += bytes(8 if isinstance(piece, Ccw) else 40)
-        return at
-
-    def _with_addresses(self, piece: Union[Ccw, Iob]) -> Union[Ccw, Iob]:
-        if isinstance(piece, Ccw):
-            return replace(piece, address=self._resolved(piece.address))
-        return replace(piece, ecb=self._resolved(piece.ecb), start=self._resolved(piece.start))
-
-    def _resolved(self, at: Address) -> int:
-        if isinstance(at, str):
-            if at not in self._labels:
-                raise ValueError(f"the area has no label {at!r}")
-            return self._labels[at]
-        return at
+    def __repr__(self) -> str:
+        ends = f"{self.start_cylinder}, {self.start_head}, {self.end_cylinder}, {self.end_head}"
+        rest = f"unit_block={_shown(self.unit_block)}, bin={self.bin}"
+        return f"Extent({ends}, {self.tracks}, file_mask=0x{self.file_mask:02X}, {rest})"
 
 
-def piece_of(storage: bytes, base: int, at: int, length: int) -> bytes:
-    """Bytes of a storage that lies at `base`."""
-    if not base <= at <= at + length <= base + len(storage):
-        whole = f"the {len(storage)} bytes at {base:06X}"
-        raise ValueError(f"{length} bytes at {at:06X} are not in {whole}")
-    return storage[at - base : at - base + length]
+def _shown(address: Address) -> str:
+    return repr(address) if isinstance(address, str) else f"0x{address:06X}"
+
+
+def _flags(flags: int) -> str:
+    """The flags by their names, if they have some."""
+    names = [name for name, bit in FLAGS.items() if flags & bit]
+    others = flags & ~sum(FLAGS.values())
+    return "|".join([f"Flag.{it}" for it in names] + ([f"0x{others:02X}"] if others else [])) or "0"
 
 
 def _word(high: int, address: Address) -> int:

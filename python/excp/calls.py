@@ -8,6 +8,7 @@ import weakref
 from typing import Any, Iterator
 
 from . import library
+from .blocks import code_of
 from .errors import Status, error_of
 from .library import Handle, call, message, status_of
 from .values import Answer, Kind, Name
@@ -50,7 +51,7 @@ class Calls:
         answer = self.plain_event(name, unit, *values)
         kind = Kind(answer.kind)
         named = Name(answer.task, unit, answer.number) if kind.names_request else None
-        return Answer(kind, named, answer.commands, answer.code)
+        return Answer(kind, named, answer.commands, code_of(answer.code))
 
     def plain_event(self, name: str, unit: int, *values: Any) -> library.Answer:
         """What an event of a unit did, as the library answers it (excp_answer)."""

@@ -17,8 +17,20 @@ DEVICES = DISK, TAPE, PRINTER
 ANY = "any"
 
 
-class Op(enum.IntEnum):
-    """Commands by their mnemonics. Some codes have several names, one for each kind of device."""
+class Op(int, enum.Enum):
+    """Commands by their mnemonics, which they have as text. As a number each is its code. Commands
+    of several kinds of devices may have one code, and are equal then."""
+
+    def __new__(cls, code: int) -> Op:
+        # two members of one value would be one, so the count of members is beside the code
+        op = int.__new__(cls, code)
+        op._value_ = code, len(cls.__members__)
+        return op
+
+    @classmethod
+    def _missing_(cls, value: object) -> Optional[Op]:
+        """The first command with a code."""
+        return next((it for it in cls if int(it) == value), None)
 
     NOP, SNS, TIC = 0x03, 0x04, 0x08
     SIDE, SKE = 0x31, 0x29
@@ -29,6 +41,21 @@ class Op(enum.IntEnum):
     REW, BSB, BSF, FSB, FSF = 0x07, 0x27, 0x2F, 0x37, 0x3F
     PR0, PR1, PR2, PR3, PRC1 = 0x01, 0x09, 0x11, 0x19, 0x89
     SP1, SP2, SP3, SKC1 = 0x0B, 0x13, 0x1B, 0x8B
+
+    @property
+    def value(self) -> int:
+        """The code."""
+        return int(self)
+
+    def __repr__(self) -> str:
+        return f"<Op.{self.name}: 0x{self:02X}>"
+
+    def __str__(self) -> str:
+        return self.name
+
+    def __format__(self, format_spec: str) -> str:
+        """The name, or the code in a form that is given."""
+        return format(int(self), format_spec) if format_spec else self.name
 
 
 class Flag(enum.IntFlag):
@@ -68,7 +95,7 @@ class DeviceCommand(NamedTuple):
 
     @property
     def code(self) -> int:
-        return Op[self.mnemonic].value
+        return int(Op[self.mnemonic])
 
 
 # A mistake in a mnemonic suggests the first of equally near ones, in this order.

@@ -49,3 +49,10 @@ SENSE_BITS: Mapping[int, str] = {
 def names_of(bits: int, names: Mapping[int, str]) -> List[str]:
     """The names of the bits that are on."""
     return [name for bit, name in names.items() if bits & bit]
+
+
+def with_names(bits: int, names: Mapping[int, str]) -> str:
+    """Two bytes in hexadecimal, with the names of the bits that are on, such as `0C00 (channel end,
+    device end)`."""
+    found = ", ".join(names_of(bits, names))
+    return f"{bits:04X} ({found})" if found else f"{bits:04X}"

@@ -92,6 +92,10 @@ class NoNumber(ExcpError):
     """The task used its last number at the unit: checkpoint the unit."""
 
 
+class NoPost(ExcpError, LookupError):
+    """No post was delivered to the task that it has not collected."""
+
+
 class NotIdle(ExcpError):
     """The unit is not idle, so no checkpoint."""
 
@@ -122,6 +126,7 @@ _CLASSES = {
     Status.WRONG_DCB: BadRequest,
     Status.FULL: Full,
     Status.NO_NUMBER: NoNumber,
+    Status.NO_POST: NoPost,
     Status.NOT_IDLE: NotIdle,
     Status.IN_ERROR: InError,
 }

@@ -3,14 +3,16 @@
 from __future__ import annotations
 
 import ctypes
-from typing import Any, Iterable, List, Optional, Tuple, Union
+from typing import Any, Dict, Iterable, List, Optional, Tuple, Union
 
 from . import library
-from .blocks import Address, Area, Csw
+from .area import Area
+from .blocks import Address, Csw, code_of
 from .calls import Calls
-from .errors import BadImage, Status
+from .errors import BadImage, NoPost, Status
+from .posts import Post
 from .unit import Dcb, Unit
-from .values import Answer, Fault, Mode, Name, Post, Record, TapeMark
+from .values import Answer, Fault, Mode, Name, Record, TapeMark
 
 # How many requests may be in flight to a unit and held by it, and how many posts may be on their
 # way to a task, unless said otherwise; and the most of them.
@@ -30,6 +32,8 @@ class Site:
         self.tasks = tasks
         self.units: List[Unit] = []
         self.calls = Calls(tasks, post_room)
+        # of each request that was not collected, the labels of its area
+        self._labels: Dict[Name, Dict[str, int]] = {}
 
     def __enter__(self) -> Site:
         return self
@@ -151,11 +155,17 @@ class Site:
 
     def issue(self, task: int, dcb: Dcb, area: Area, iob: Address = "IOB") -> Name:
         """Issues a request on a copy of the storage of an area, with the IOB at this address or
-        label. The answer is its name."""
+        label. The answer is its name. Raises ValueError for a DCB of another site."""
+        unit = dcb.unit
+        if unit.site is not self:
+            raise ValueError(f"{dcb!r} is one of another site")
         found, at = ctypes.c_uint64(), area[iob] if isinstance(iob, str) else iob
         storage = area.base, bytes(area)
-        self.calls.call("issue", task, dcb.unit.number, dcb.number, at, *storage, found)
-        return Name(task, dcb.unit.number, found.value)
+        with self.calls.lock:
+            self.calls.call("issue", task, unit.number, dcb.number, at, *storage, found)
+            name = Name(task, unit.number, found.value)
+            self._labels[name] = area.labels
+        return name
 
     def next_post(self, task: int) -> Optional[Post]:
         """Collects the next post of a task. `None`: none is there that it has not collected."""
@@ -165,15 +175,26 @@ class Site:
                 return None
             storage = ctypes.create_string_buffer(post.length)
             self.calls.call("next_post", task, post, storage)
+            name = Name(post.task, post.unit, post.number)
+            labels = self._labels.pop(name, {})
         return Post(
-            name=Name(post.task, post.unit, post.number),
+            name=name,
             dcb=post.dcb,
-            code=post.code,
+            code=code_of(post.code),
             csw=Csw(post.address, post.unit_status, post.channel_status, post.residual),
             sense=post.sense,
             base=post.base,
             storage=storage.raw,
+            labels=labels,
         )
+
+    def post(self, task: int) -> Post:
+        """Collects the next post of a task. Raises `NoPost` if none is there that it has not
+        collected."""
+        found = self.next_post(task)
+        if found is None:
+            raise NoPost(Status.NO_POST, library.message(Status.NO_POST))
+        return found
 
     def posts(self, task: int) -> List[Post]:
         """Collects all posts of a task that were delivered."""

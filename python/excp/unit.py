@@ -7,7 +7,7 @@ import itertools
 from typing import TYPE_CHECKING, Any, Iterator, List, Sequence, Tuple
 
 from . import library
-from .blocks import Csw, Extent
+from .blocks import Csw, Extent, code_of
 from .errors import Status
 from .reporting.text import unit_history
 from .values import (
@@ -143,7 +143,7 @@ class Unit:
             task=0 if kind.names_request else found.task,
             dcb=found.dcb,
             way=found.way,
-            code=found.code,
+            code=code_of(found.code),
             csw=Csw(found.address, found.unit_status, found.channel_status, found.residual),
             sense=found.sense,
         )

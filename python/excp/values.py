@@ -1,4 +1,4 @@
-"""What a site takes and gives: modes, records, names of requests, answers, posts and states."""
+"""What a site takes and gives: modes, records, names of requests, answers and states."""
 
 from __future__ import annotations
 
@@ -6,7 +6,8 @@ import enum
 from dataclasses import dataclass
 from typing import NamedTuple, Optional, Tuple
 
-from .blocks import Area, Csw, piece_of
+from .blocks import Csw, code_text
+from .device_status import SENSE_BITS, STATUS_BITS, with_names
 
 
 class Method(enum.IntEnum):
@@ -151,6 +152,9 @@ class Answer:
             words.append(f"{self.code:02X}")
         return " ".join(words)
 
+    def __repr__(self) -> str:
+        return f"<Answer {self}>"
+
 
 @dataclass(frozen=True)
 class Served:
@@ -159,34 +163,6 @@ class Served:
     posts: int
     commands: int
     ended: ServedEnd
-
-
-@dataclass(frozen=True)
-class Post:
-    """How a request ended, and its storage as its channel program left it. As text it is the line
-    of a run, without the bytes that a script shows."""
-
-    name: Name
-    dcb: int
-    code: int
-    csw: Csw
-    sense: int
-    base: int
-    storage: bytes
-
-    def at(self, address: int, length: int) -> bytes:
-        """Bytes of the storage."""
-        return piece_of(self.storage, self.base, address, length)
-
-    def area(self) -> Area:
-        """The storage as an area that can be issued again. Clear its ECB first, as a program under
-        MVS does."""
-        return Area(self.base, self.storage)
-
-    def __str__(self) -> str:
-        csw, status = self.csw, f"{self.csw.unit:02X}{self.csw.sub:02X}"
-        ended = f"{csw.address:06X} {status} {csw.residual:04X} {self.sense:04X}"
-        return f"post {self.name} {self.code:02X} {ended}"
 
 
 @dataclass(frozen=True)
@@ -204,6 +180,18 @@ class Entry:
     code: int = 0
     csw: Csw = Csw()
     sense: int = 0
+
+    def __repr__(self) -> str:
+        """The kind, and what is not 0 or None."""
+        values = {
+            "name": self.name, "commands": self.commands, "task": self.task, "dcb": self.dcb,
+            "way": self.way,
+        }
+        parts = [self.kind.name, *(f"{name} {it}" for name, it in values.items() if it)]
+        if self.kind == EntryKind.POSTED:
+            sense = with_names(self.sense, SENSE_BITS)
+            parts += [code_text(self.code), repr(self.csw), f"sense {sense}"]
+        return f"<Entry {', '.join(parts)}>"
 
 
 @dataclass(frozen=True)
@@ -229,6 +217,10 @@ class DcbState:
     phase: DcbPhase
     in_error: bool
     file_mask: int
+
+    def __repr__(self) -> str:
+        error = ", in error" if self.in_error else ""
+        return f"<DcbState {self.phase.name}{error}, file mask {self.file_mask:02X}>"
 
 
 @dataclass(frozen=True)
@@ -264,6 +256,11 @@ class Fault:
     unit_status: int = 0x0E
     channel_status: int = 0x00
     sense: int = 0x0000
+
+    def __repr__(self) -> str:
+        status = with_names(self.unit_status << 8 | self.channel_status, STATUS_BITS)
+        sense = with_names(self.sense, SENSE_BITS)
+        return f"<Fault at command {self.command}: status {status}, sense {sense}>"
 
 
 class TapeMark:

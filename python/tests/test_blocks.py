@@ -1,5 +1,7 @@
 """Control blocks and areas, by docs/MANUAL.md and docs/SPECIFICATION.md."""
 
+import copy
+import pickle
 import unittest
 
 from excp import Area, Ccw, Csw, Extent, Flag, Iob, Op, Seek
@@ -72,6 +74,49 @@ class Blocks(unittest.TestCase):
         for at, content in ((0xFFF, b"1"), (0x103D, b"1"), (0x103C, b"12")):
             with self.assertRaises(ValueError):
                 area.store(at, content)
+
+    def test_commands_with_one_code_keep_their_names(self):
+        """Rewind and seek are both X'07', write tape mark and set file mask both X'1F'."""
+        self.assertEqual([str(it) for it in (Op.REW, Op.SEEK, Op.WTM, Op.SFM)], ["REW", "SEEK", "WTM", "SFM"])
+        self.assertEqual(f"{Op.REW} {Op.REW:02X} {Op.REW!r}", "REW 07 <Op.REW: 0x07>")
+        self.assertEqual((Op.REW.value, Op.REW == Op.SEEK, Op(0x07), Op["REW"]), (0x07, True, Op.SEEK, Op.REW))
+        self.assertEqual(len(set(Op.__members__)), len(list(Op)))
+        for copied in copy.deepcopy(Op.REW), pickle.loads(pickle.dumps(Op.REW)):
+            self.assertIs(copied, Op.REW)
+        with self.assertRaises(ValueError):
+            Op(0x99)
+        self.assertEqual(Ccw(Op.REW).to_bytes().hex().upper(), "0700000000000001")
+
+    def test_blocks_as_text_have_hexadecimal_and_names(self):
+        self.assertEqual(repr(Ccw(Op.REW)), "Ccw(Op.REW, 0x000000, 0, 1)")
+        self.assertEqual(repr(Ccw(0x06, "BUFFER", Flag.CC | Flag.SLI, 4)), "Ccw(0x06, 'BUFFER', Flag.CC|Flag.SLI, 4)")
+        self.assertEqual(repr(Ccw(0x06, 0x1060, 0x41, 4)), "Ccw(0x06, 0x001060, Flag.CC|0x01, 4)")
+        self.assertEqual(repr(Csw(0x1048, 0x0E, 0x40, 4)),
+                         "<Csw 001048, status 0E40 (channel end, device end, unit check, incorrect length), residual 0004>")
+        self.assertEqual(str(Csw(0x1048, 0x0E, 0x40, 4)), "001048 0E40 0004")
+        self.assertEqual(repr(Extent(0, 0, 0, 4, 5)), "Extent(0, 0, 0, 4, 5, file_mask=0x18, unit_block=0x000000, bin=0)")
+        self.assertTrue(repr(Iob(0x1028, "CP", 1)).startswith("Iob(ecb=0x001028, start='CP', dcb=1, seek=Seek("))
+        for block in Ccw(0x06, "BUFFER", Flag.CC | Flag.SLI, 4), Extent(0, 0, 0, 4, 5):
+            self.assertEqual(eval(repr(block)), block)
+
+    def test_area_as_text_is_a_short_dump(self):
+        self.assertEqual(repr(hello()), "<Area of 61 bytes at 001000, IOB 001000, ECB 001028, CP 001030, LINE 001038\n"
+                         "  001000 42000000 00001028 00000000 00000000 00001030 00000001 00000000 00000000\n"
+                         "  001020 00000000 00000000 00000000 00000000 09001038 00000005 C8C5D3D3 D6>")
+        long = repr(Area(0x1000, bytes(8192))).splitlines()
+        self.assertEqual((len(long), long[-1]), (6, "  .. 8064 bytes more>"))
+        # a piece whose label comes later can still be laid out after its area was shown
+        area = Area(0x1000)
+        area.program(Ccw(Op.RD, "BUFFER", count=4))
+        self.assertIn("001000 00000000 00000000", repr(area))
+        area.space("BUFFER", 4)
+        self.assertEqual(bytes(area).hex().upper(), "060010080000000400000000")
+
+    def test_area_of_bytes_has_the_labels_that_it_is_given(self):
+        area = Area(0x1000, bytes(hello()), hello().labels)
+        self.assertEqual((area["LINE"], area.at("LINE", 5)), (0x1038, HELLO[0x38:]))
+        with self.assertRaisesRegex(ValueError, "'IOB' is there twice"):
+            area.iob()
 
     def test_mistakes(self):
         area = Area(0x1000)

@@ -231,10 +231,78 @@ class Requests(unittest.TestCase):
             site.issue(0, dcb, first)
             disk.serve()
             area = site.next_post(0).area()
-            area.store(first["ECB"], bytes(4))
-            self.assertEqual(site.issue(0, dcb, area, iob=0x1000).number, 2)
+            self.assertEqual(area.labels, first.labels)
+            area.store("ECB", bytes(4))
+            self.assertEqual(site.issue(0, dcb, area).number, 2)
             disk.serve()
-            self.assertEqual(site.next_post(0).code, Code.ENDED)
+            post = site.next_post(0)
+            self.assertEqual((post.code, post.at("BUFFER", 4)), (Code.ENDED, b"\xC1\xC2\xC3\xC4"))
+
+    def test_each_post_has_the_labels_of_its_area(self):
+        """Requests of two areas, of which one is purged; one of bytes without labels; and labels that come after the issue."""
+        with Site() as site:
+            disk, dcb = a_disk(site)
+            other = Area(0x2000)
+            other.iob("OTHER", start="PROGRAM", ecb="DONE", dcb=dcb)
+            other.ecb("DONE")
+            other.program(Ccw(Op.NOP), label="PROGRAM")
+            for area, iob in (other, "OTHER"), (read_record(), "IOB"), (Area(0x1000, bytes(read_record())), 0x1000):
+                site.issue(0, dcb, area, iob)
+            other.space("LATE", 1)
+            disk.take()
+            dcb.purge()
+            disk.serve()
+            posts = site.posts(0)
+            self.assertEqual([it.code for it in posts], [Code.PURGED, Code.ENDED, Code.ENDED])
+            self.assertEqual([sorted(it.labels) for it in posts], [["DONE", "OTHER", "PROGRAM"], sorted(read_record().labels), []])
+            with self.assertRaisesRegex(ValueError, "no label 'LATE'"):
+                posts[0].at("LATE", 1)
+
+    def test_post_that_is_missing(self):
+        with Site() as site:
+            disk, dcb = a_disk(site)
+            self.assertIsNone(site.next_post(0))
+            with self.assertRaises(excp.NoPost) as caught:
+                site.post(0)
+            self.assertEqual((caught.exception.status, str(caught.exception)), (Status.NO_POST, excp.message(Status.NO_POST)))
+            site.issue(0, dcb, read_record())
+            with self.assertRaises(LookupError):
+                site.post(0)
+            disk.serve()
+            self.assertEqual(site.post(0).name, Name(0, 0, 1))
+
+    def test_dcb_of_another_site(self):
+        """Both sites have a DCB 1 of unit 0."""
+        with Site() as site, Site() as other:
+            disk, dcb = a_disk(site)
+            a_disk(other)
+            with self.assertRaisesRegex(ValueError, "<DCB 1 of unit 0> is one of another site"):
+                other.issue(0, dcb, read_record())
+            with self.assertRaisesRegex(ValueError, "of another site"):
+                other.issue(0, disk.dcb(1), read_record())
+            self.assertEqual((disk.state.in_flight, other.units[0].state.in_flight), (0, 0))
+
+    def test_posts_as_text_have_names(self):
+        """A missing record, by docs/SPECIFICATION.md, rule 9.9. The searches pass R0 and record 1 twice, and the fifth meets the second
+        index point: unit check with sense 0008, and the whole count residual."""
+        with Site() as site:
+            disk, dcb = a_disk(site, [Fault(9, sense=0x0800)])
+            site.issue(0, dcb, read_record(9))
+            self.assertEqual(repr(disk.take()), "<Answer Took 0 0 1>")
+            disk.serve()
+            post = site.post(0)
+            self.assertIs(post.code, Code.PERMANENT_ERROR)
+            self.assertEqual(str(post), "post 0 0 1 41 001038 0E00 0005 0008")
+            csw = "<Csw 001038, status 0E00 (channel end, device end, unit check), residual 0005>"
+            ended = f"41 (permanent error), {csw}, sense 0008 (no record found)"
+            self.assertEqual(repr(post), f"<Post 0 0 1 {ended}, {len(post.storage)} bytes at 001000>")
+            self.assertEqual([repr(it) for it in disk.entries()],
+                             ["<Entry OPENED, dcb 1, way 1>", "<Entry ARRIVED, name 0 0 1>", "<Entry STARTED, name 0 0 1>",
+                              "<Entry RAN, name 0 0 1, commands 5>", f"<Entry POSTED, name 0 0 1, {ended}>"])
+            self.assertEqual(repr(dcb.state), "<DcbState OPEN, file mask 18>")
+            self.assertEqual(repr(Fault(9, sense=0x0800)),
+                             "<Fault at command 9: status 0E00 (channel end, device end, unit check), sense 0800 (data check)>")
+            self.assertEqual(repr(Code.ENDED), "<Code.ENDED: 0x7F>")
 
 
 class Rooms(unittest.TestCase):

@@ -4,12 +4,13 @@ from __future__ import annotations
 
 from typing import Any, Callable, Iterator, List, Mapping
 
-from ..blocks import Area
+from ..area import Area
 from ..errors import ExcpError, Full, NoDcb, NoNumber, Status
+from ..posts import Post
 from ..script.set_up import SetUp
 from ..site import Site
 from ..unit import Dcb, Unit
-from ..values import Answer, Kind, Mode, Post
+from ..values import Answer, Kind, Mode
 from .mounted import open_dcb
 from .past import Past
 

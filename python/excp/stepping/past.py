@@ -7,10 +7,11 @@ from array import array
 from itertools import chain
 from typing import Any, Dict, Iterable, Iterator, List, Sequence
 
+from ..posts import Post
 from ..reporting.texts import shown
 from ..script.grammar import Excp
 from ..unit import Unit
-from ..values import Name, Post
+from ..values import Name
 
 _IOB_BYTES = 40
 

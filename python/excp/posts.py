@@ -1,0 +1,43 @@
+"""How a request ended, with its storage."""
+
+from __future__ import annotations
+
+from dataclasses import dataclass, field
+from typing import Mapping
+
+from .area import Area, address_of, piece_of
+from .blocks import Address, Csw, code_text
+from .device_status import SENSE_BITS, with_names
+from .values import Name
+
+
+@dataclass(frozen=True)
+class Post:
+    """How a request ended, and its storage as its channel program left it, with the labels of the
+    area that was issued. `code` is a `Code`. As text it is the line of a run, without the bytes
+    that a script shows."""
+
+    name: Name
+    dcb: int
+    code: int
+    csw: Csw
+    sense: int
+    base: int
+    storage: bytes
+    labels: Mapping[str, int] = field(default_factory=dict, compare=False)
+
+    def at(self, address: Address, length: int) -> bytes:
+        """Bytes of the storage, at an address or a label."""
+        return piece_of(self.storage, self.base, address_of(self.labels, address), length)
+
+    def area(self) -> Area:
+        """The storage as an area that can be issued again. Clear its ECB first, as a program under
+        MVS does."""
+        return Area(self.base, self.storage, self.labels)
+
+    def __str__(self) -> str:
+        return f"post {self.name} {self.code:02X} {self.csw} {self.sense:04X}"
+
+    def __repr__(self) -> str:
+        ended = f"{code_text(self.code)}, {self.csw!r}, sense {with_names(self.sense, SENSE_BITS)}"
+        return f"<Post {self.name} {ended}, {len(self.storage)} bytes at {self.base:06X}>"
