@@ -8,12 +8,15 @@ each C compiler that is there, and run alone, with sanitizers and under valgrind
 """
 
 import glob
+import io
 import os
 import random
 import re
 import shutil
 import sys
+import tarfile
 import tempfile
+import zipfile
 
 from groups import images
 from groups import random as at_random
@@ -408,7 +411,7 @@ def is_installed(*how):
         if made.status:
             raise Skipped("python3 has no venv")
         python = f"{folder}/bin/python"
-        environment = {**without_words(), "PIP_NO_INDEX": "1", "PIP_DISABLE_PIP_VERSION_CHECK": "1"}
+        environment = {**without_words(), **OFFLINE}
         ran = run([python, "-m", "pip", "install", *how, f"{TOP}/python"], env=environment, cwd=folder, timeout=300)
         require(ran.status == 0, "pip does not install it", ran)
         where = run([python, "-c", "import excp; print(excp.__file__)"], env=environment, cwd=folder)
@@ -417,6 +420,93 @@ def is_installed(*how):
         shutil.copy(EXAMPLE, folder)
         ran = run([python, "-B", f"{folder}/{os.path.basename(EXAMPLE)}"], env=environment, cwd=folder)
         require((ran.status, ran.err) == (0, "") and ran.out.count(": passed\n") == 4, "the example fails", ran)
+        code, due = (re.sub("(?m)^    ", "", it) for it in PAGE_BLOCK.findall(read(f"{TOP}/python/README.md")))
+        expect(run([python, "-B", "-c", code], env=environment, cwd=folder), (0, due, ""))
+
+
+# The blocks of a page: a program, and what it prints.
+PAGE_BLOCK = re.compile(r"(?m)(?:^    .*\n(?:\n(?=    ))?)+")
+
+# What pip does without a network, whatever was installed before.
+OFFLINE = {"PIP_NO_INDEX": "1", "PIP_DISABLE_PIP_VERSION_CHECK": "1"}
+
+
+def is_not_installed():
+    """Without a library pip installs nothing, and names the command that makes one."""
+    with tempfile.TemporaryDirectory() as folder:
+        environment = {**without_words(), **OFFLINE, "EXCP_LIBRARY": f"{folder}/libexcp.so"}
+        ran = run([sys.executable, "-m", "pip", "wheel", "-w", folder, f"{TOP}/python"], env=environment, cwd=folder, timeout=300)
+        if "No module named pip" in ran.err:
+            raise Skipped("python3 has no pip")
+        text = f"there is no {folder}/libexcp.so, so the wheel would lack the library."
+        require(ran.status != 0 and text in ran.out + ran.err, "pip does not say what is missing", ran)
+        require("tools/library.py --unproved" in ran.out + ran.err and "Traceback" not in ran.out + ran.err, "pip names no command", ran)
+        require(os.listdir(folder) == [], "a wheel is there", ran)
+
+
+# Calls a hook of the backend, in a folder with its sources. The words are its name and where it writes to.
+HOOK = "import sys, wheel_backend; print(getattr(wheel_backend, sys.argv[1])(sys.argv[2]))"
+
+
+def is_archived():
+    """The source archive has what the wheel is built of, and the wheel that is built of it has the same files."""
+    needs()
+    environment = {**without_words(), "EXCP_LIBRARY": f"{FOLDER}/libexcp.so", "PYTHONDONTWRITEBYTECODE": "1"}
+    with tempfile.TemporaryDirectory() as folder:
+        call = lambda name, where: run([sys.executable, "-c", HOOK, name, folder], cwd=where, env=environment)
+        expect(call("build_sdist", f"{TOP}/python"), (0, f"excp-{version()}.tar.gz\n", ""))
+        with tarfile.open(f"{folder}/excp-{version()}.tar.gz") as archive:
+            require(all(it.isfile() and it.name.startswith(f"excp-{version()}/") for it in archive), "something else is in it")
+            archive.extractall(folder)
+        wheels = []
+        for where in f"{TOP}/python", f"{folder}/excp-{version()}":
+            ran = call("build_wheel", where)
+            require((ran.status, ran.err) == (0, ""), "no wheel is built", ran)
+            wheels.append(images.bytes_of(f"{folder}/{ran.out.strip()}"))
+        require(wheels[0] == wheels[1], "the wheel of the archive is another one")
+        with zipfile.ZipFile(io.BytesIO(wheels[0])) as wheel:
+            names, metadata = wheel.namelist(), wheel.read(f"excp-{version()}.dist-info/METADATA").decode()
+            require(wheel.read("excp/libexcp.so") == images.bytes_of(f"{FOLDER}/libexcp.so"), "another library is in the wheel")
+    require({"excp/py.typed", "excp/site.py", "excp/help/excp.txt", "excp/viewer/page.html"} <= set(names), f"it has {names}")
+    head, _, body = metadata.partition("\n\n")
+    require(f"Version: {version()}\n" in head and body == read(f"{TOP}/python/README.md"), f"the metadata are {metadata}")
+
+
+def version():
+    """The version of the package."""
+    return re.search(r'^__version__ = "(.*)"$', read(f"{TOP}/python/excp/__init__.py"), re.M)[1]
+
+
+# A client whose types mypy checks. The last line is wrong: a completion code is a number.
+TYPED = """import excp
+
+with excp.Site() as site:
+    printer: excp.Unit = site.printer(lines=1, pages=1)
+    area = excp.Area(0x1000)
+    area.program(excp.Ccw(excp.Op.NOP, flags=excp.Flag.SLI))
+    name: excp.Name = site.issue(0, printer.open(), area)
+    post: excp.Post = site.post(0)
+    code: str = post.code
+"""
+
+
+def has_types():
+    """mypy --strict finds the types of the package that a client installs: one mistake, in its last line."""
+    needs("mypy")
+    with tempfile.TemporaryDirectory() as folder:
+        with open(f"{folder}/client.py", "w", encoding="ascii") as file:
+            file.write(TYPED)
+        made = run([sys.executable, "-m", "venv", "--without-pip", f"{folder}/own"], timeout=300)
+        require(made.status == 0, "no environment is made", made)
+        environment = {**without_words(), "EXCP_LIBRARY": f"{FOLDER}/libexcp.so"}
+        ran = run([sys.executable, "-B", "-c", HOOK, "build_wheel", folder], cwd=f"{TOP}/python", env=environment)
+        packages = glob.glob(f"{folder}/own/lib/python3*/site-packages")[0]
+        with zipfile.ZipFile(f"{folder}/{ran.out.strip()}") as wheel:
+            wheel.extractall(packages)
+        words = ["mypy", "--strict", "--cache-dir", f"{folder}/cache", "--python-executable", f"{folder}/own/bin/python", "client.py"]
+        ran = run(words, cwd=folder, env=without_words(), timeout=300)
+        found = [line for line in ran.out.splitlines() if ": error: " in line]
+        require(len(found) == 1 and found[0].startswith("client.py:9: ") and '"str"' in found[0], "mypy finds something else", ran)
 
 
 # --- cases
@@ -469,3 +559,6 @@ def cases(setup):
     yield Case("the example in Python", example_passes, "docs/MANUAL.md")
     for how in (), ("-e",):
         yield Case(" ".join(["pip install", *how, "./python"]), lambda h=how: is_installed(*h), "docs/CLIENT.md")
+    yield Case("pip without a library", is_not_installed, "docs/CLIENT.md")
+    yield Case("the source archive", is_archived, "PEP 517")
+    yield Case("types of the installed package", has_types, "PEP 561, by mypy --strict")
