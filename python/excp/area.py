@@ -3,10 +3,12 @@
 from __future__ import annotations
 
 import contextlib
-from dataclasses import replace
 from typing import Dict, Iterator, List, Mapping, Optional, SupportsIndex, Tuple, Union
 
-from .blocks import Address, Ccw, Iob, Seek
+from .blocks import Address, Ccw, Iob, Seek, address_of
+
+# The most bytes that a request has.
+MOST_BYTES = 8192
 
 # The most labels and the most lines that the text of an area has, and the bytes of a line.
 _SHOWN = 8
@@ -108,7 +110,7 @@ class Area:
 
     def __bytes__(self) -> bytes:
         for place, piece in self._pieces:
-            image = self._with_addresses(piece).to_bytes()
+            image = piece.to_bytes(self._labels)
             self._storage[place : place + len(image)] = image
         # labels keep their addresses, so what is laid out stays
         self._pieces = []
@@ -119,7 +121,7 @@ class Area:
         storage = bytearray(self._storage)
         for place, piece in self._pieces:
             with contextlib.suppress(ValueError):
-                image = self._with_addresses(piece).to_bytes()
+                image = piece.to_bytes(self._labels)
                 storage[place : place + len(image)] = image
         return bytes(storage)
 
@@ -139,22 +141,8 @@ class Area:
         self._storage += bytes(8 if isinstance(piece, Ccw) else 40)
         return at
 
-    def _with_addresses(self, piece: Union[Ccw, Iob]) -> Union[Ccw, Iob]:
-        if isinstance(piece, Ccw):
-            return replace(piece, address=self._resolved(piece.address))
-        return replace(piece, ecb=self._resolved(piece.ecb), start=self._resolved(piece.start))
-
     def _resolved(self, at: Address) -> int:
-        return address_of(self._labels, at)
-
-
-def address_of(labels: Mapping[str, int], at: Address) -> int:
-    """An address, or that of a label."""
-    if isinstance(at, str):
-        if at not in labels:
-            raise ValueError(f"the area has no label {at!r}")
-        return labels[at]
-    return at
+        return address_of(at, self._labels)
 
 
 def piece_of(storage: bytes, base: int, at: int, length: int) -> bytes:

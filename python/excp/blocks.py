@@ -9,7 +9,7 @@ from __future__ import annotations
 import enum
 import struct
 from dataclasses import dataclass, field
-from typing import SupportsIndex, Tuple, Union
+from typing import Mapping, Optional, SupportsIndex, Tuple, Union
 
 from .device_commands import FLAGS, Flag as Flag, Op as Op
 from .device_status import STATUS_BITS, with_names
@@ -54,8 +54,10 @@ class Ccw:
     flags: int = 0
     count: int = 1
 
-    def to_bytes(self) -> bytes:
-        return struct.pack(">IBxH", _word(self.command, self.address), self.flags, self.count)
+    def to_bytes(self, labels: Optional[Mapping[str, int]] = None) -> bytes:
+        """The 8 bytes. `labels` has the address of a label."""
+        word = _word(self.command, self.address, labels)
+        return struct.pack(">IBxH", word, self.flags, self.count)
 
     @staticmethod
     def from_bytes(image: bytes) -> Ccw:
@@ -133,10 +135,11 @@ class Iob:
     completion: int = 0
     csw: Csw = field(default_factory=Csw)
 
-    def to_bytes(self) -> bytes:
-        dcb = self.dcb.__index__()
-        head = struct.pack(">BxHI", self.flags, self.sense, _word(self.completion, self.ecb))
-        pointers = struct.pack(">II8x", _word(0, self.start), dcb)
+    def to_bytes(self, labels: Optional[Mapping[str, int]] = None) -> bytes:
+        """The 40 bytes. `labels` has the addresses of labels."""
+        dcb, ecb = self.dcb.__index__(), _word(self.completion, self.ecb, labels)
+        head = struct.pack(">BxHI", self.flags, self.sense, ecb)
+        pointers = struct.pack(">II8x", _word(0, self.start, labels), dcb)
         return head + b"\0" + self.csw.to_bytes() + pointers + self.seek.to_bytes()
 
     @staticmethod
@@ -201,10 +204,20 @@ def _flags(flags: int) -> str:
     return "|".join([f"Flag.{it}" for it in names] + ([f"0x{others:02X}"] if others else [])) or "0"
 
 
-def _word(high: int, address: Address) -> int:
+def address_of(at: Address, labels: Optional[Mapping[str, int]]) -> int:
+    """An address, or that of a label of an area."""
+    if not isinstance(at, str):
+        return at
+    if labels is None:
+        raise ValueError(f"the label {at!r} has no address outside an area")
+    if at not in labels:
+        raise ValueError(f"the area has no label {at!r}")
+    return labels[at]
+
+
+def _word(high: int, at: Address, labels: Optional[Mapping[str, int]] = None) -> int:
     """A byte before an address of three bytes."""
-    if isinstance(address, str):
-        raise ValueError(f"the label {address!r} has no address outside an area")
+    address = address_of(at, labels)
     if not 0 <= address <= 0xFFFFFF:
         raise ValueError(f"{address:#x} is no address of 24 bits")
     return high << 24 | address

@@ -21,9 +21,10 @@ class Calls:
     """The calls of one site, which is made here, and freed once nothing uses it."""
 
     def __init__(self, tasks: int, post_room: int) -> None:
-        self._handle, self.lock = Handle(), threading.RLock()
-        call("site_new", self._handle, tasks, post_room)
-        self._freed = weakref.finalize(self, _free, self._handle)
+        handle, self.lock = Handle(), threading.RLock()
+        self._site = ctypes.byref(handle)
+        call("site_new", self._site, tasks, post_room)
+        self._freed = weakref.finalize(self, _free, handle)
 
     def free(self) -> None:
         """Frees the site. Later calls raise `NoSite`."""
@@ -33,13 +34,13 @@ class Calls:
     def call(self, name: str, *values: Any) -> None:
         """Makes a call. Raises the exception of its status."""
         with self.lock:
-            call(name, self._handle, *values)
+            call(name, self._site, *values)
 
     def finds(self, name: str, none: Status, *values: Any) -> bool:
         """Makes a call that looks for something. Returns whether there is such a thing: if not,
         the call has the status `none`. Raises as `call`."""
         with self.lock:
-            status = status_of(name, self._handle, *values)
+            status = status_of(name, self._site, *values)
             if status == none:
                 return False
             if status:
@@ -85,4 +86,4 @@ class Calls:
 
 def _free(handle: Handle) -> None:
     if handle.at:
-        call("site_free", handle)
+        call("site_free", ctypes.byref(handle))

@@ -188,34 +188,40 @@ def is_proved() -> bool:
     return bool(library().excp_is_proved())
 
 
+# The largest number that a word of a call takes; another word takes none.
+_NO_NUMBER = -1
+
+
 @functools.lru_cache(maxsize=None)
-def planned(name: str) -> Tuple[Any, List[str]]:
-    """A call of the library, and the words of its values."""
-    return getattr(library(), f"excp_{name}"), CALLS[name].split()
+def planned(name: str) -> Tuple[Any, List[Tuple[str, int]]]:
+    """A call of the library, and the words of its values, each with its largest number."""
+    words = [(it, NUMBERS[it][1] if it in NUMBERS else _NO_NUMBER) for it in CALLS[name].split()]
+    return getattr(library(), f"excp_{name}"), words
 
 
-def call(name: str, handle: Handle, *values: Any) -> None:
-    """Makes a call on a site. Raises the exception of its status."""
-    status = status_of(name, handle, *values)
+def call(name: str, site: Any, *values: Any) -> None:
+    """Makes a call on a site, by a reference to its handle. Raises the exception of its status."""
+    status = status_of(name, site, *values)
     if status:
         raise error_of(status, message(status))
 
 
-def status_of(name: str, handle: Handle, *values: Any) -> int:
+def status_of(name: str, site: Any, *values: Any) -> int:
     """Makes a call on a site. Returns its status."""
     function, words = planned(name)
     given: List[Any] = []
-    for word, value in zip(words, values):
-        if word == "ref":
+    for (word, most), value in zip(words, values):
+        if most != _NO_NUMBER:
+            is_right = type(value) is int and 0 <= value <= most
+            given.append(value if is_right else number(value, most))
+        elif word == "ref":
             given.append(byref(value))
-        elif word in NUMBERS:
-            given.append(number(value, NUMBERS[word][1]))
         elif word == "bytes":
             image = value if isinstance(value, bytes) else bytes(memoryview(value))
             given += [image, len(image)]
         else:
             given += [value, len(value)]
-    status: int = function(byref(handle), *given)
+    status: int = function(site, *given)
     return status
 
 

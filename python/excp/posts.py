@@ -5,8 +5,8 @@ from __future__ import annotations
 from dataclasses import dataclass, field
 from typing import Mapping
 
-from .area import Area, address_of, piece_of
-from .blocks import Address, Csw, code_text
+from .area import Area, piece_of
+from .blocks import Address, Csw, address_of, code_text
 from .device_status import SENSE_BITS, with_names
 from .values import Name
 
@@ -28,7 +28,7 @@ class Post:
 
     def at(self, address: Address, length: int) -> bytes:
         """Bytes of the storage, at an address or a label."""
-        return piece_of(self.storage, self.base, address_of(self.labels, address), length)
+        return piece_of(self.storage, self.base, address_of(address, self.labels), length)
 
     def area(self) -> Area:
         """The storage as an area that can be issued again. Clear its ECB first, as a program under

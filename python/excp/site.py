@@ -6,7 +6,7 @@ import ctypes
 from typing import Any, Dict, Iterable, List, Optional, Tuple, Union
 
 from . import library
-from .area import Area
+from .area import MOST_BYTES, Area
 from .blocks import Address, Csw, code_of
 from .calls import Calls
 from .errors import BadImage, NoPost, Status
@@ -34,6 +34,8 @@ class Site:
         self.calls = Calls(tasks, post_room)
         # of each request that was not collected, the labels of its area
         self._labels: Dict[Name, Dict[str, int]] = {}
+        # what the storage of a post is copied to
+        self._storage = ctypes.create_string_buffer(MOST_BYTES)
 
     def __enter__(self) -> Site:
         return self
@@ -169,12 +171,11 @@ class Site:
 
     def next_post(self, task: int) -> Optional[Post]:
         """Collects the next post of a task. `None`: none is there that it has not collected."""
-        post = library.Post()
-        with self.calls.lock:
-            if not self.calls.finds("peek_post", Status.NO_POST, task, post):
+        post, calls = library.Post(), self.calls
+        with calls.lock:
+            if not calls.finds("next_post", Status.NO_POST, task, post, self._storage):
                 return None
-            storage = ctypes.create_string_buffer(post.length)
-            self.calls.call("next_post", task, post, storage)
+            storage = ctypes.string_at(self._storage, post.length)
             name = Name(post.task, post.unit, post.number)
             labels = self._labels.pop(name, {})
         return Post(
@@ -184,7 +185,7 @@ class Site:
             csw=Csw(post.address, post.unit_status, post.channel_status, post.residual),
             sense=post.sense,
             base=post.base,
-            storage=storage.raw,
+            storage=storage,
             labels=labels,
         )
 

@@ -391,6 +391,17 @@ def costs_little():
 # --- Python
 
 
+# How many requests are measured through Python.
+MEASURED = "20000"
+
+
+def requests_in_python():
+    """tests/library/requests.py ends well, whose times docs/CLIENT.md has."""
+    needs()
+    lines = [ends_well([sys.executable, "-B", f"{TOP}/{REQUESTS}.py", how, MEASURED]) for how in ("one", "each")]
+    return f"of one area: {lines[0]}; each of its own: {lines[1]}"
+
+
 def unit_tests_pass():
     needs()
     ran = run(UNIT_TESTS, cwd=f"{TOP}/python", env=without_words(), timeout=300)
@@ -556,6 +567,7 @@ def cases(setup):
     yield from of_images(setup)
     yield from in_c(setup)
     yield Case("the unit tests of the Python package", unit_tests_pass, "docs/MANUAL.md and c/excp.h")
+    yield Case("requests through Python", requests_in_python, "docs/CLIENT.md, What a call costs")
     yield Case("the example in Python", example_passes, "docs/MANUAL.md")
     for how in (), ("-e",):
         yield Case(" ".join(["pip install", *how, "./python"]), lambda h=how: is_installed(*h), "docs/CLIENT.md")
