@@ -1,29 +1,35 @@
-"""Every order of all steps of small jobs (crates/every_order) comes to the outcomes that `excp outcomes` finds.
+"""Every order of all steps of small jobs comes to the outcomes that `excp outcomes` finds.
 
-The search of `outcomes` leaves orders out, because they are argued to lose nothing. The program every_order goes through all of
-them, and takes two states for one only if all that the readers of their books tell is equal. The sets of posts and of
+The search of `outcomes` leaves orders out, because they are argued to lose nothing. tests/every_order.py goes through all of them
+over the library, and takes two states for one only if all that the readers of their units tell is equal. The sets of posts and of
 whole outputs are compared. By their histories, the smallest jobs come to the same too.
 """
 
 import os
 import re
 
-from groups.outcomes import BY_HAND, SELDOM, TAPES, outcomes_of, told_by
-from harness import TOP, Case, Skipped, read, require, run
+from every_order import Orders
+from excp.programs.library_choice import PLACE
+from groups.outcomes import BY_HAND, SELDOM, TAPES, numbers_and_post, outcomes_of, told_by
+from harness import LIBRARY, TOP, Case, Skipped, read, require
 from small_jobs import small_job
 
 ORIGIN = "docs/MANUAL.md, every outcome of a job: over all lawful orders of the steps"
 
-# How many small jobs there are, also in the long form, and how many are one case. Each runs by these turns. Of the jobs of a case
-# the program may leave so many unfinished.
+# How many small jobs there are, also in the long form, and how many are one case. Each runs by two turns, and one in so many by a
+# third. Of the jobs of a case so many may be left unfinished by each turn.
 JOBS = 200
 JOBS_LONG = 2_000
 BATCH = 20
 TURNS = 1, 2
+LONG_TURN, LONG_TURNS = 64, 10
 UNFINISHED = 1
 
+# The turn of `outcomes` without `--turn`.
+USUAL_TURN = 64
+
 # The most states of a job.
-MOST_STATES = 1_000_000
+MOST_STATES = 600_000
 
 # At least one job in so many has requests to two units, and a task that goes on after it waited for a request.
 WAITS = 12
@@ -31,7 +37,7 @@ WAITS = 12
 # How many smallest jobs there are by their histories, also in the long form, and the most states of one.
 HISTORIES = 40
 HISTORIES_LONG = 200
-MOST_HISTORIES = 100_000
+MOST_HISTORIES = 10_000
 
 # From so many outcomes of a request on, `outcomes` prints the first of each code without `--all`.
 GROUPED = 8
@@ -39,43 +45,26 @@ GROUPED = 8
 COMMANDS = "excp", "purge", "purgetask", "close", "reset", "wait"
 
 
-def program(setup):
-    """The program: beside the one that is tested, or as `rt ci` built it."""
-    for path in f"{os.path.dirname(setup.program)}/every_order", f"{TOP}/crates/every_order/out/every_order":
-        if os.access(path, os.X_OK):
-            return path
-    raise Skipped("every_order is not built: `rt run` in crates/every_order")
-
-
-def every_order(setup, script, *words):
-    """What the program finds: the posts of each request by its numbers, and the whole outputs. There is nothing if it does not come
-    to its end."""
-    ran = run([program(setup), "--whole", *words], script)
-    lines = ran.out.splitlines()
-    if ran.status == 2:
-        require(lines[-2] == "not all", "a search that is cut does not say so", ran)
+def every_order(script, turn, most=MOST_STATES, by_history=False):
+    """The posts of each request by its numbers, and the whole outputs. There is nothing if a job has more states."""
+    if not os.path.exists(LIBRARY):
+        raise Skipped("no library in out/library: tools/library.py builds one")
+    os.environ[PLACE] = LIBRARY
+    orders = Orders(script, turn, by_history)
+    if not orders.go_through(most):
         return None
-    require((ran.status, ran.err) == (0, ""), "it fails", ran)
-    posts, *outputs = re.split(r"^output \d+\n", ran.out, flags=re.M)
-    *posts, count = posts.splitlines()
-    outputs = [it.splitlines() for it in outputs]
-    require(re.fullmatch(r"\d+ states", outputs[-1].pop()), "the last line is not the number of states", ran)
-    require(count == f"{len(outputs)} whole outputs", "it prints another number of whole outputs", ran)
+    orders.make_again()
     told = {}
-    for post in posts:
-        fields = post.split(" ", 4)
-        told.setdefault(" ".join(fields[1:4]), []).append(fields[4])
-    require(all(posts == sorted(set(posts)) for posts in told.values()), "the posts of a request are out of order", ran)
-    outputs = {tuple(it) for it in outputs}
-    require(count == f"{len(outputs)} whole outputs", "a whole output is printed twice", ran)
-    return told, outputs
+    for name, post in (numbers_and_post(line) for output in orders.outputs() for line in output):
+        told.setdefault(name, set()).add(post)
+    return told, orders.outputs()
 
 
 def outcomes(setup, script, *words):
     """What `outcomes` finds: the posts of each request, and the whole outputs."""
     told, outputs, last = told_by(setup, script, "--whole", "--all", *words)
-    require(re.search(rf", {len(outputs)} whole outputs?\)$", last) and not last.startswith("not all"),
-            f"the last line is {last!r}")
+    is_whole = re.search(rf", {len(outputs)} whole outputs?\)$", last) and not last.startswith("not all")
+    require(is_whole, f"the last line is {last!r}")
     found = [tuple(f"post {name} {post}" for name, post in it.items()) for it in outputs]
     require(len(set(found)) == len(found), "a whole output is printed twice")
     return {name: set(posts) for name, posts in told.items()}, set(found)
@@ -89,17 +78,17 @@ def grouped(posts):
     return set(first.values())
 
 
-def is_equal(setup, script, *words, most=MOST_STATES):
+def is_equal(setup, script, turn=USUAL_TURN):
     """Whether every order was tried. If so, it comes to the outcomes that `outcomes` finds."""
-    found = every_order(setup, script, "--most-states", str(most), *words)
+    found = every_order(script, turn)
     if not found:
         return False
-    wanted = {name: set(posts) for name, posts in found[0].items()}
+    words = "--turn", str(turn)
     told, outputs = outcomes(setup, script, *words)
     alone = {name: set(posts) for name, posts in outcomes_of(setup, script, *words)[0].items()}
     some = {name: grouped(posts) for name, posts in told.items()}
     require(some == alone, f"the outcomes with whole outputs are {some}, and without them {alone}; of\n{script}")
-    require(told == wanted, f"the outcomes are {told}, and those of every order {wanted}; of\n{script}")
+    require(told == found[0], f"the outcomes are {told}, and those of every order {found[0]}; of\n{script}")
     require(outputs == found[1], f"the whole outputs are {outputs}, and those of every order {found[1]}; of\n{script}")
     return True
 
@@ -113,8 +102,8 @@ def are_equal(setup, first):
     """Small jobs from this one on have the same outcomes."""
     left = []
     for number in range(first, first + BATCH):
-        script = job(number)
-        left += [f"job {number} by turns of {turn}" for turn in TURNS if not is_equal(setup, script, "--turn", str(turn))]
+        turns = TURNS if number % LONG_TURNS else (*TURNS, LONG_TURN)
+        left += [f"job {number} by turns of {turn}" for turn in turns if not is_equal(setup, job(number), turn)]
     require(len(left) <= UNFINISHED * len(TURNS), f"too many are not finished: {', '.join(left)}")
     return f"not finished: {', '.join(left)}" if left else ""
 
@@ -140,47 +129,39 @@ def have_waits(jobs):
     require(count * WAITS >= jobs, f"only {count} of {jobs} jobs have two units and a task that waits")
 
 
-def is_same_by_history(setup, first):
+def is_same_by_history(first):
     """The smallest jobs come to the same if states are one only if the histories of their books are equal. So no reader of a book
     was left out that matters."""
     for number in range(first, first + BATCH):
         script = small_job(f"history {number}", tasks=2, units=2, requests=3, controls=2, waits=1)
         for turn in TURNS:
-            words = "--turn", str(turn), "--most-states", str(MOST_HISTORIES)
-            by_history = every_order(setup, script, "--by-history", *words)
+            by_history = every_order(script, turn, MOST_HISTORIES, by_history=True)
             if by_history:
-                require(every_order(setup, script, *words) == by_history,
-                        f"by their histories, books come to other posts; of\n{script}")
+                require(every_order(script, turn) == by_history, f"by their histories, units come to other posts; of\n{script}")
 
 
-def is_cut(setup):
+def is_cut():
     """A search that ends early says so."""
-    require(every_order(setup, TAPES, "--most-states", "20") is None, "a search of 20 states comes to its end")
+    require(every_order(TAPES, USUAL_TURN, most=20) is None, "a search of 20 states comes to its end")
 
 
-def is_rejected(setup, *words):
-    ran = run([program(setup), *words], TAPES)
-    require((ran.status, ran.out) == (1, "") and ran.err.startswith("usage: "), "the words are not rejected", ran)
-
-
-def is_complete(setup, script, *words):
-    require(is_equal(setup, script, *words), "it is not finished")
+def is_complete(setup, script, words=()):
+    """Every order of a job is tried, and comes to the same. Its options may have the turn."""
+    turn = int(words[1]) if words[:1] == ("--turn",) else USUAL_TURN
+    require(is_equal(setup, script, turn), "it is not finished")
 
 
 def cases(setup):
     for name, (script, words, _) in BY_HAND.items():
-        words = [it for it in words if it != "--whole"]
-        yield Case(f"by hand, {name}", lambda s=script, w=words: is_complete(setup, s, *w), ORIGIN)
+        yield Case(f"by hand, {name}", lambda s=script, w=words: is_complete(setup, s, w), ORIGIN)
     for name, (words, _, _) in SELDOM.items():
         file = f"tests/cases/outcomes/{name}.script"
-        yield Case(file, lambda f=file, w=words: is_complete(setup, read(f"{TOP}/{f}"), *w), ORIGIN)
+        yield Case(file, lambda f=file, w=words: is_complete(setup, read(f"{TOP}/{f}"), w), ORIGIN)
     yield Case("three of four outputs", lambda: is_complete(setup, TAPES), ORIGIN)
-    yield Case("a search that is cut", lambda: is_cut(setup), ORIGIN)
-    for words in ("--turn",), ("--turn", "0"), ("--most-states", "x"), ("whole",):
-        yield Case(f"the words {' '.join(words)}", lambda w=words: is_rejected(setup, *w), ORIGIN)
+    yield Case("a search that is cut", is_cut, ORIGIN)
     jobs, histories = (JOBS_LONG, HISTORIES_LONG) if setup.is_long else (JOBS, HISTORIES)
     yield Case("two units and a task that waits", lambda: have_waits(jobs), ORIGIN)
     for first in range(0, jobs, BATCH):
         yield Case(f"small jobs from {first}", lambda f=first: are_equal(setup, f), ORIGIN)
     for first in range(0, histories, BATCH):
-        yield Case(f"histories from {first}", lambda f=first: is_same_by_history(setup, f), ORIGIN)
+        yield Case(f"histories from {first}", lambda f=first: is_same_by_history(f), ORIGIN)
