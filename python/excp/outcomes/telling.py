@@ -8,7 +8,7 @@ from typing import Callable, List, Optional, Protocol, Sequence
 from .bench import Bench, Witness
 from .changes import Trials, measures
 from .hints import hint
-from .job import NumberedJob, Request
+from .job import Request
 from .scenarios import scenario_of, scenario_of_all, steps_as_comments
 from .search import Found, Outcome, Search
 from .tally import Tally
