@@ -83,7 +83,7 @@ class JobSite:
         """A call of the library with these values, which returns its status."""
         function, words = library.planned(name)
         given = []
-        for word, value in zip(words, values):
+        for (word, _), value in zip(words, values):
             if word == "ref":
                 given.append(ctypes.byref(value))
             else:
