@@ -14,10 +14,11 @@ from ..stepping.schedule import WAIT
 from .job import NumberedJob, Request
 from .search import Outcome
 
-# How many steps are left out at a time, in turn; and how much work it takes at most to make a
-# witness short, in steps and commands.
+# How many steps are left out at a time, in turn; and how much work it takes at most to make a witness
+# short, in steps and commands, and to make all short.
 _SIZES = 8, 4, 2, 1
-_MOST_WORK = 100_000
+_MOST_WORK = 20_000
+_MOST_WORK_OF_ALL = 500_000
 
 # What a command of a task answers that cannot be made.
 _NOT_MADE = "Full", "NoNumber", "NoSuchDcb"
@@ -41,6 +42,8 @@ class Bench:
     def __init__(self, job: NumberedJob, images: Mapping[int, bytes]) -> None:
         self.job, self.images = job, images
         self._rooms = job.steps.rooms()
+        # how much work may still be done to make witnesses short
+        self._left = _MOST_WORK_OF_ALL
 
     def stage(self) -> Stage:
         """A new site of the job."""
@@ -53,7 +56,7 @@ class Bench:
     ) -> Optional[Witness]:
         """What steps lead to, made short, if it is this outcome of a request."""
         best, _ = self.carry_out(steps, request, outcome)
-        left = _MOST_WORK
+        left = spared = min(_MOST_WORK, self._left)
         for size in _SIZES:
             if best is None:
                 return None
@@ -66,6 +69,7 @@ class Bench:
                 left -= work
                 if shorter is not None:
                     best, kept = shorter, fewer
+        self._left -= spared - left
         return best
 
     def carry_out(
