@@ -22,7 +22,7 @@ import programs
 from groups.costs import STARTER
 from groups.reports import as_json, stored
 from groups.scenarios import scenarios
-from harness import SAMPLES, TOP, Case, Failed, expect_text, read, require, run
+from harness import LIBRARY, SAMPLES, TOP, Case, Failed, expect_text, read, require, run
 
 VIEWER = f"{TOP}/python/excp/viewer"
 
@@ -110,9 +110,14 @@ def has_its_json(setup, script):
     """The page of a scenario is safe and whole, and has the JSON of the same scenario."""
     page = pages.check(page_of(setup, "step", "--html", script=script))
     expected = as_json(setup.run("step", "--json", script=script))
-    foot(page, "its events")
+    foot(page, "its events", of_library())
     require(page.run() == expected, "the page has another JSON")
     expect_text("other posts than the JSON", None, pages.posts_of(expected), page.texts["post-lines"])
+
+
+def of_library():
+    """Whether the library is proved that carries scenarios and seeds out: tools/library.py says so beside it."""
+    return "proved" if os.path.exists(f"{LIBRARY}.proved") else "not proved"
 
 
 def foot(page, how, state="not proved"):
@@ -125,7 +130,7 @@ def foot(page, how, state="not proved"):
 def has_its_foot(setup):
     """The foot has the seed; and it says `proved` of a program whose record of a proof is beside it, as long as it is that file."""
     script = read(f"{SAMPLES}/read.script")
-    foot(pages.check(page_of(setup, "report", "--html", "--seed", "7", script=script)), "seed 7")
+    foot(pages.check(page_of(setup, "report", "--html", "--seed", "7", script=script)), "seed 7", of_library())
     with tempfile.TemporaryDirectory() as folder:
         file = shutil.copy2(setup.tools, folder)
         for change, state in (0, "proved"), (1, "not proved"):
