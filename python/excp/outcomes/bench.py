@@ -14,8 +14,8 @@ from ..stepping.schedule import WAIT
 from .job import NumberedJob, Request
 from .search import Outcome
 
-# How many steps are left out at a time, in turn; and how much work it takes at most to make a witness
-# short, in steps and commands, and to make all short.
+# How many steps are left out at a time, in turn; and how much work it takes at most to make a
+# witness short, in steps and commands, and to make all short.
 _SIZES = 8, 4, 2, 1
 _MOST_WORK = 20_000
 _MOST_WORK_OF_ALL = 500_000
