@@ -2,24 +2,28 @@
 //!
 //!     {"ended":"whole","states":12,"bytes":34567}
 //!     {"outcomes":[[0,"7F001048000000000C00",9],[1,"48000000000000000000",4]]}
-//!     {"whole":[0,2]}
+//!     {"media":[[0,12],[3,9]]}
+//!     {"whole":[0,2],"media":[3]}
 //!     {"last":true}
 //!
 //! `ended` says why the search ended: whole, states, memory or watch. Then each request has a line. Of each of its outcomes it has the
 //! number, the bytes of the post, and how many steps lead to it, about. The bytes are the completion code, the CSW, the sense bytes
-//! and the bytes shown. Each whole output has a line with the number of an outcome for each request, if they are sought.
+//! and the bytes shown. If media are sought, each unit has a line: of each medium that a whole run leaves the number, and how many
+//! steps lead to it. Each whole output has a line with the number of an outcome for each request, and of a medium for each unit, if
+//! they are sought.
 //!
 //!     {"steps":["task 0","take 0","start 0","run 0 64","interrupt 0","deliver 0","collect 0"],"last":true}
 //!
 //! `task` is the next command of a task. The steps are null if there are none.
 
-use numbered_job::Step;
+use book_states::{NumberedJob, Step};
 use outcome_search::{Outcome, Search, SearchEnd};
 use post_lines::write_bytes;
 use std::io::{Result, Write};
 
-/// Writes what a search of a job with this many requests found.
-pub fn write_found<W: Write>(out: &mut W, search: &Search<'_>, requests: usize) -> Result<()> {
+/// Writes what a search of a job found.
+pub fn write_found<W: Write>(out: &mut W, search: &Search<'_>, job: &NumberedJob) -> Result<()> {
+    let (requests, units) = (job.requests.len(), job.units());
     let ended = match search.ended() {
         SearchEnd::Whole => "whole",
         SearchEnd::States => "states",
@@ -34,8 +38,20 @@ pub fn write_found<W: Write>(out: &mut W, search: &Search<'_>, requests: usize) 
     for (request, _) in (0..=u16::MAX).zip(0..requests) {
         write_outcomes(out, search, search.outcomes(request))?;
     }
-    for place in 0..search.wholes().unwrap_or(0) {
-        write_whole(out, search.whole(place))?;
+    if search.sought().media {
+        for (unit, _) in (0..=u16::MAX).zip(0..units) {
+            write_media(out, search.media(unit))?;
+        }
+    }
+    for place in 0..search.wholes() {
+        let (posts, media) = parted(search.whole(place), requests);
+        write!(out, "{{\"whole\":")?;
+        write_numbers(out, posts)?;
+        if search.sought().media {
+            write!(out, ",\"media\":")?;
+            write_numbers(out, media)?;
+        }
+        writeln!(out, "}}")?;
     }
     writeln!(out, "{{\"last\":true}}")
 }
@@ -53,15 +69,37 @@ fn write_outcomes<W: Write>(out: &mut W, search: &Search<'_>, outcomes: &[Outcom
     writeln!(out, "]}}")
 }
 
-/// Writes a whole output.
-fn write_whole<W: Write>(out: &mut W, whole: &[u32]) -> Result<()> {
-    write!(out, "{{\"whole\":[")?;
+/// Writes the media of a unit.
+fn write_media<W: Write>(out: &mut W, media: &[Outcome]) -> Result<()> {
+    write!(out, "{{\"media\":[")?;
     let mut before = "";
-    for number in whole {
-        write!(out, "{before}{number}")?;
+    for medium in media {
+        write!(out, "{before}[{},{}]", medium.key, medium.length())?;
         before = ",";
     }
     writeln!(out, "]}}")
+}
+
+/// The first numbers of a whole output, and the others.
+fn parted(whole: &[u32], first: usize) -> (&[u32], &[u32]) {
+    whole.split_at(first.min(whole.len()))
+}
+
+/// Writes numbers.
+fn write_numbers<W: Write>(out: &mut W, numbers: &[u32]) -> Result<()> {
+    write!(out, "[")?;
+    let mut before = "";
+    for number in numbers {
+        write!(out, "{before}{number}")?;
+        before = ",";
+    }
+    write!(out, "]")
+}
+
+/// Writes that a search found nothing, because memory ran out.
+pub fn write_lack<W: Write>(out: &mut W) -> Result<()> {
+    writeln!(out, "{{\"ended\":\"memory\",\"states\":0,\"bytes\":0}}")?;
+    writeln!(out, "{{\"last\":true}}")
 }
 
 /// Writes steps, if there are any.

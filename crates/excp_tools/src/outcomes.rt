@@ -6,24 +6,25 @@
 //!     try STATES LENGTH     the text of a changed script follows, which is searched up to this number of states
 //!     steps REQUEST PLACE   the steps that lead to an outcome of a request, by its place among them
 //!     whole PLACE           the steps that lead to a whole output
+//!     media UNIT PLACE      the steps of a whole run that leaves a medium of a unit, by its place among them
 //!     run                   the steps of some whole run
 //!
 //! Requests are counted from 0, by tasks and then as a task issues them. The answers are lines of JSON ([`crate::answers`]).
 
 use crate::UNFIT;
-use crate::answers::{write_found, write_steps};
+use crate::answers::{write_found, write_lack, write_steps};
 use crate::pace::Pace;
 use crate::saver::fits;
 use crate::screen::Screen;
 use crate::script::{SizedScript, sized};
 use crate::words::{USAGE, Words};
 use any_device::AnyDevice;
+use book_states::{Step, opened_job};
 use device_port::Device;
 use job_media::{MountedImages, mount_images};
 use job_script::{JobError, Script};
 use medium_image::Image;
-use numbered_job::{Step, opened_job};
-use outcome_search::{Limits, Search, SearchWatch};
+use outcome_search::{Limits, Search, SearchWatch, Sought};
 use std::alloc::{AllocError, Global};
 use std::cell::Cell;
 use std::io::{BufRead, BufReader, BufWriter, ErrorKind, Read, Write};
@@ -50,6 +51,7 @@ enum Question {
     Try { states: u32, length: usize },
     Steps { request: u16, place: usize },
     Whole { place: usize },
+    Media { unit: u16, place: usize },
     Run,
 }
 
@@ -110,6 +112,10 @@ fn question_of(line: &[u8]) -> Option<Question> {
         "whole" => Some(Question::Whole {
             place: first.parse().ok()?,
         }),
+        "media" => Some(Question::Media {
+            unit: first.parse().ok()?,
+            place: second.parse().ok()?,
+        }),
         "run" => Some(Question::Run),
         _ => None,
     }
@@ -138,18 +144,27 @@ pub fn outcomes(
         return Err(JobError::NoMemory);
     };
     let (job, books) = opened_job(alloc, &script, devices)?;
-    let mut search = Search::new(alloc, &job, copies(alloc, &books)?, words.turn, words.whole)?;
+    let sought = Sought {
+        turn: words.turn,
+        every_order: words.unreduced,
+        wholes: words.whole,
+        media: words.media,
+    };
+    let mut search = Search::new(alloc, &job, copies(alloc, &books)?, sought)?;
     let mut pace = Pace::new(rt, words.seconds, MOST_BYTES);
     let limits = Limits {
         states: words.states,
         bytes: MOST_BYTES,
     };
     search.explore(limits, &mut pace);
-    said(write_found(&mut out, &search, job.requests.len()))?;
+    said(write_found(&mut out, &search, &job))?;
     let trials = Trials {
         alloc,
         books: &books,
-        turn: words.turn,
+        sought: Sought {
+            wholes: false,
+            ..sought
+        },
         bytes: MOST_BYTES.saturating_sub(search.bytes()),
     };
     for _ in 0..u64::MAX {
@@ -182,6 +197,12 @@ fn steps_of(search: &mut Search<'_>, question: Question) -> Result<Option<Vec<St
             search.witness(request, outcome.key)
         }
         Question::Whole { place } => search.whole_witness(place),
+        Question::Media { unit, place } => {
+            let Some(medium) = search.media(unit).get(place).copied() else {
+                return Ok(None);
+            };
+            search.medium_witness(unit, medium.key)
+        }
         _ => search.run(),
     }
 }
@@ -192,7 +213,7 @@ struct Trials<'b> {
     alloc: Global,
     /// Whose devices the units have.
     books: &'b [UnitBook<AnyDevice>],
-    turn: u32,
+    sought: Sought,
     /// The most bytes that one takes, about.
     bytes: usize,
 }
@@ -210,17 +231,24 @@ impl SearchWatch for Patience {
 }
 
 impl<'b> Trials<'b> {
-    /// Searches a changed script, and writes what was found.
+    /// Searches a changed script, and writes what was found: nothing if memory runs out.
     fn answer<W: Write>(&self, text: &[u8], states: u32, out: &mut W) -> Result<(), JobError> {
+        match self.search(text, states, out) {
+            Err(JobError::NoMemory) => said(write_lack(out)),
+            answered => answered,
+        }
+    }
+
+    fn search<W: Write>(&self, text: &[u8], states: u32, out: &mut W) -> Result<(), JobError> {
         let script = Script::parse(self.alloc, text)?;
         let (job, books) = opened_job(self.alloc, &script, devices(self.alloc, self.books)?)?;
-        let mut search = Search::new(self.alloc, &job, books, self.turn, false)?;
+        let mut search = Search::new(self.alloc, &job, books, self.sought)?;
         let limits = Limits {
             states,
             bytes: self.bytes,
         };
         search.explore(limits, &mut Patience);
-        said(write_found(out, &search, job.requests.len()))
+        said(write_found(out, &search, &job))
     }
 }
 

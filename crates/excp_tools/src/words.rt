@@ -59,8 +59,10 @@ pub struct Words {
     pub turn: u32,
     pub states: u32,
     pub seconds: u64,
-    /// Whether whole outputs are sought.
+    /// Whether whole outputs are sought, and media, and whether every order of steps is tried.
     pub whole: bool,
+    pub media: bool,
+    pub unreduced: bool,
 }
 
 impl Words {
@@ -78,6 +80,8 @@ impl Words {
             states: 1_000_000,
             seconds: u64::MAX,
             whole: false,
+            media: false,
+            unreduced: false,
         }
     }
 
@@ -104,6 +108,8 @@ impl Words {
             "load" => return added(alloc, &mut self.loads, value),
             "save" => return added(alloc, &mut self.saves, value),
             "whole" => self.whole = true,
+            "media" => self.media = true,
+            "unreduced" => self.unreduced = true,
             _ => return Ok(self.set(name, value).is_some()),
         }
         Ok(true)

@@ -12,8 +12,8 @@ use Rattle.job_script.specs.Lines.{line_of}
 use Rattle.request_piece.specs.declared.scope.Scope.TheVariants as scopes
 use Rattle.locked_steps.specs.declared.room_line.RoomLine.{RoomLine}
 use Rattle.locked_steps.specs.declared.room_line.RoomLine.TheVariants as rooms
-use Rattle.numbered_job.specs.declared.step.Step.{Step}
-use Rattle.numbered_job.specs.declared.step.Step.TheVariants as steps
+use Rattle.book_states.specs.declared.step.Step.{Step}
+use Rattle.book_states.specs.declared.step.Step.TheVariants as steps
 use Rattle.locked_steps.specs.declared.verb.EventVerb.{EventVerb}
 use Rattle.locked_steps.specs.declared.verb.EventVerb.TheVariants as verbs
 use Rattle.locked_steps.specs.EventVerbs.{event_verb_of}

@@ -3,7 +3,7 @@ use Rattle.std.specs.Prelude.{ℕ}
 use Rattle.job_script.specs.Said.{LineSaid}
 use Rattle.job_script.specs.LineViews.{line_said}
 use Rattle.locked_steps.specs.declared.room_line.RoomLine.{RoomLine}
-use Rattle.numbered_job.specs.declared.step.Step.{Step}
+use Rattle.book_states.specs.declared.step.Step.{Step}
 use Rattle.locked_steps.specs.declared.line.ScenarioLine.{ScenarioLine}
 use Rattle.locked_steps.specs.declared.line.ScenarioLine.TheVariants as lines
 

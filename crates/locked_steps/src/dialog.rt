@@ -8,7 +8,7 @@ use crate::plan::Plan;
 use crate::printer::Printer;
 use crate::reader::ScenarioReader;
 use job_script::{FaultName, JobError, LIMIT, Line, Refusal, SetUp};
-use numbered_job::Step;
+use book_states::Step;
 use std::alloc::Global;
 use std::io::{Read, Write};
 

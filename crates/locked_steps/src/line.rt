@@ -12,7 +12,7 @@ use crate::room_line::RoomLine;
 use crate::verb::EventVerb;
 use job_script::forms::{has, has_least, index, mode_of, number_in};
 use job_script::{Action, Command, FaultName, Line, Refusal};
-use numbered_job::Step;
+use book_states::Step;
 use request_piece::Scope;
 use script_words::{Words, is_word};
 use std::alloc::Global;

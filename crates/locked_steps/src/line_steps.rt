@@ -13,7 +13,7 @@ use job_mount::can_issue;
 use job_script::{
     Action, Command, DcbName, Excp, ExcpLine, FaultName, Line, Opening, Refusal, SetUp, SetUpLine,
 };
-use numbered_job::Step;
+use book_states::Step;
 use request_piece::Scope;
 use std::alloc::AllocError;
 use unit_book::{Delivery, Mode};

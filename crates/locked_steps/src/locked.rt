@@ -11,7 +11,7 @@ use any_device::AnyDevice;
 use excp_system::{Opened, System, Task, UnitState};
 use job_mount::request;
 use job_script::{Excp, Opening};
-use numbered_job::Step;
+use book_states::Step;
 use post_ledger::finish;
 use request_piece::{Posted, Scope};
 use std::alloc::{AllocError, Global};

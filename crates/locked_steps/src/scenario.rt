@@ -14,7 +14,7 @@ use crate::view::{View, Views};
 use any_device::AnyDevice;
 use excp_system::{Opened, Rows, System};
 use job_script::{JobError, LIMIT, SetUp};
-use numbered_job::Step;
+use book_states::Step;
 use std::alloc::{AllocError, Global};
 use std::io::{Read, Write};
 use std::marker::Brand;

@@ -1,2 +1,0 @@
--- Lemmas on numbering.
-pub mod Numbered
