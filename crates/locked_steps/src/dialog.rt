@@ -7,8 +7,8 @@ use crate::line_steps::LineSteps;
 use crate::plan::Plan;
 use crate::printer::Printer;
 use crate::reader::ScenarioReader;
-use job_script::{FaultName, JobError, LIMIT, Line, Refusal, SetUp};
 use book_states::Step;
+use job_script::{FaultName, JobError, LIMIT, Line, Refusal, SetUp};
 use std::alloc::Global;
 use std::io::{Read, Write};
 

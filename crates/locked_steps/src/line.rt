@@ -10,9 +10,9 @@ ghost use Rattle.locked_steps.specs.ScenarioSaid.{says_step, scenario_said};
 
 use crate::room_line::RoomLine;
 use crate::verb::EventVerb;
+use book_states::Step;
 use job_script::forms::{has, has_least, index, mode_of, number_in};
 use job_script::{Action, Command, FaultName, Line, Refusal};
-use book_states::Step;
 use request_piece::Scope;
 use script_words::{Words, is_word};
 use std::alloc::Global;

@@ -9,11 +9,11 @@ use crate::line::ScenarioLine;
 use crate::locked::Supply;
 use crate::step_answer::StepAnswer;
 use crate::task_records::TaskRecords;
+use book_states::Step;
 use job_mount::can_issue;
 use job_script::{
     Action, Command, DcbName, Excp, ExcpLine, FaultName, Line, Opening, Refusal, SetUp, SetUpLine,
 };
-use book_states::Step;
 use request_piece::Scope;
 use std::alloc::AllocError;
 use unit_book::{Delivery, Mode};
