@@ -11,10 +11,10 @@ from dataclasses import dataclass
 from harness import TOP, Skipped, expect, outcome, read, require, run, without_states
 
 # The pages whose jobs have their posts in the next code block.
-JOBS = ["docs/MANUAL.md"]
+JOBS = ["docs/TUTORIAL.md"]
 
 # A line that is a command.
-COMMAND = re.compile(r"(?:\$ )?(?:\./|tests/|tools/|cd |rt |job=)")
+COMMAND = re.compile(r"(?:\$ )?(?:\./|tests/|tools/|cd |rt |job=|head )")
 
 # ./excp of a folder in which commands run: it runs the programs that are tested, on a file or with a subcommand, and the package.
 # The job whose outcomes the pages show has several, of which the status tells.
@@ -100,26 +100,29 @@ ANYTHING = "anything"
 # Blocks of commands by their page and first command: what they print, and the files that they read, each the first block of the
 # page with a line, or a file of the repository.
 RUN = {
-    ("README.md", "./excp samples/read.script"): (NEXT, {}),
+    ("README.md", "./excp step samples/scenarios/halt-an-active-request.scenario | tail"): (NEXT, {}),
+    ("README.md", "./excp describe old.aws"): (NEXT, {"old.aws": "tests/cases/images/w.aws"}),
+    ("README.md", "./excp outcomes samples/outcomes/a-halt.symbolic | grep"): (NEXT, {}),
     ("README.md", "./excp report --posts - <<'END'"): (NEXT, {}),
-    ("README.md", "./excp outcomes samples/outcomes/a-halt.symbolic"): (ANYTHING, {}),
-    ("README.md", "./excp describe old.aws"): (ANYTHING, {"old.aws": "tests/cases/images/w.aws"}),
-    ("README.md", "./excp step samples/scenarios/halt-an-active-request.scenario"): (ANYTHING, {}),
     ("samples/README.md", "./excp report samples/read-a-tape.script | grep -v '^# unit\\|^#  '"): (ANYTHING, {}),
     ("samples/README.md", "./excp step samples/scenarios/halt-an-active-request.scenario"): (ANYTHING, {}),
     ("samples/README.md", "./excp report samples/update-in-place.symbolic"): (ANYTHING, {}),
     ("samples/README.md", "./excp assemble samples/read.symbolic > /tmp/read.script"): (ANYTHING, {}),
-    ("docs/MANUAL.md", "./excp step halt"): (NEXT, {"halt": "purge 0 0 1 halt"}),
-    ("docs/MANUAL.md", "job=samples/outcomes/a-halt.symbolic"): (NEXT, {}),
-    ("docs/MANUAL.md",
+    ("docs/TUTORIAL.md", "./excp check job"): (NEXT, {"job": "LINE: DC  C'HELLO'"}),
+    ("docs/TUTORIAL.md", "./excp job"): (ANYTHING, {"job": "LINE: DC  C'HELLO'"}),
+    ("docs/TUTORIAL.md",
      "./excp debug errors <<'END'"): (AMONG, {"errors": "ID:     CCHHR 0,0,9                ; cylinder 0, head 0, record 9"}),
-    ("docs/MANUAL.md", "./excp job"): (ANYTHING, {"job": "LINE: DC  C'HELLO'"}),
+    ("docs/TUTORIAL.md", "./excp step halt"): (NEXT, {"halt": "purge 0 0 1 halt"}),
+    ("docs/TUTORIAL.md", "./excp test --accept job"): (SESSION, {"job": "LINE: DC  C'HELLO'"}),
+    ("docs/TUTORIAL.md", "./excp report --posts --seed 12"): (ANYTHING, {}),
+    ("docs/TUTORIAL.md", "./excp outcomes samples/outcomes/a-halt.symbolic | grep"): (NEXT, {}),
+    ("docs/TUTORIAL.md", "job=samples/outcomes/a-halt.symbolic"): (NEXT, {}),
+    ("docs/TUTORIAL.md", "./excp convert --to aws"): (NEXT, {"tape": "block 0 C'BOOK1'", "append": "BLOCK:  DC    C'BOOK3'"}),
+    ("docs/TUTORIAL.md", "head -c 3200 README.md"): (ANYTHING, {"README.md": "README.md"}),
     ("docs/MANUAL.md", "./excp report first | awk"): (NOTHING, {"first": "samples/read.symbolic", "rest": "samples/read.script"}),
     ("docs/MANUAL.md", "./excp report --json first"): (ANYTHING, {"first": "samples/read.symbolic"}),
     ("docs/MANUAL.md", "./excp report --html first"): (NOTHING, {"first": "samples/read.symbolic"}),
     ("docs/MANUAL.md", "./excp outcomes samples/outcomes/a-halt.symbolic"): (SESSION, {}),
-    ("docs/MANUAL.md", "./excp report --seed 12"): (ANYTHING, {}),
-    ("docs/MANUAL.md", "./excp test --accept job"): (SESSION, {"job": "LINE: DC  C'HELLO'"}),
     ("samples/README.md", "./excp outcomes samples/outcomes/a-halt.script"): (ANYTHING, {}),
     ("samples/README.md", "./excp test samples"): (ANYTHING, {}),
     ("docs/REPORT.md", "./excp report --json first.script"): (ANYTHING, {"first.script": "samples/read.script"}),
@@ -131,11 +134,13 @@ RUN = {
     ("docs/ASSEMBLER.md", "./excp assemble job | ./excp -"): (NEXT, {"job": "tasks 1"}),
 }
 
+# What commands need beside Python, each with the package of Debian that has it.
+NEEDED = {"parallel": "parallel", "dasdload": "hercules"}
+
 # Blocks of commands that the tests do not run, and why.
 NOT_RUN = {
     ("docs/CLIENT.md", "cd crates/print_tape && rt run"): "`rt ci` proves the program and runs it",
     ("docs/CLIENT.md", "tools/library.py"): "the group library_clients builds and runs the examples",
-    ("docs/MANUAL.md", "./excp describe tape.aws disk.ckd"): "it needs images; the group images runs such commands",
     ("samples/README.md",
      "./excp step --html samples/scenarios/a-related-error.scenario"): "it needs Chromium; the group pages opens pages",
     ("docs/SPEED.md", "cd crates/excp_speed && rt run -- 2000"): "it proves the program and takes minutes",
@@ -173,8 +178,9 @@ def content(page, source):
 def prints_page(setup, block, following):
     """The commands of a block succeed, and print what the page says."""
     kind, sources = named(block, RUN)
-    if "parallel " in block.text() and not shutil.which("parallel"):
-        raise Skipped("no GNU parallel (Debian's package `parallel`)")
+    for tool, package in NEEDED.items():
+        if f"{tool} " in block.text() and not shutil.which(tool):
+            raise Skipped(f"no {tool} (Debian's package `{package}`)")
     typed = [line.removeprefix("$ ") for line in block.lines if kind != SESSION or line.startswith("$ ")]
     with tempfile.TemporaryDirectory() as folder:
         for name in "samples", "tests":

@@ -5,7 +5,7 @@ from __future__ import annotations
 import unicodedata
 from dataclasses import dataclass
 from enum import Enum
-from typing import Iterable, Iterator, Optional
+from typing import Iterable, Iterator, Mapping, Optional
 
 # Bold red and bold yellow, and the end of either, as terminals take them (ECMA-48, "SGR").
 RED, YELLOW, PLAIN = "\x1b[1;31m", "\x1b[1;33m", "\x1b[0m"
@@ -28,6 +28,22 @@ class FaultName(Enum):
     EXTENT = "Extent"
     REQUEST = "Request"
 
+
+# What each name says of a script, in the order in which a run looks. docs/MANUAL.md has it, by
+# `tools/reference.py`.
+FAULTS: Mapping[FaultName, str] = {
+    FaultName.WORDS: "the first word is unknown, the number of words wrong, or a byte no printable "
+    "ASCII character",
+    FaultName.NUMBER: "a word is not of its form, or a number outside its range",
+    FaultName.ORDER: "a set-up line after a command, `tasks` twice or missing, no unit, or a "
+    "number out of sequence",
+    FaultName.NAME: "a unit, task, area or DCB that is not declared",
+    FaultName.KIND: "`rec` for a unit that is no disk, `block` or `mark` for one that is no tape",
+    FaultName.AREA: "an area that is misaligned, too long or past the top",
+    FaultName.MEDIUM: "a geometry, a medium or faults that cannot be mounted",
+    FaultName.EXTENT: "extents that cannot be opened, or too many DCBs",
+    FaultName.REQUEST: "a request that cannot be made, or shown bytes outside of its area",
+}
 
 @dataclass(frozen=True)
 class Finding:

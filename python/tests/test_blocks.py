@@ -6,7 +6,7 @@ import unittest
 
 from excp import Area, Ccw, Csw, Extent, Flag, Iob, Op, Seek
 
-# The area of "A job in ten lines" (docs/MANUAL.md): an IOB, an ECB, a program that prints HELLO.
+# The area of "A job in ten lines" (docs/TUTORIAL.md): an IOB, an ECB, a program that prints HELLO.
 HELLO = bytes.fromhex(
     "42000000 00001028 00000000 00000000 00001030 00000001 00000000 00000000 00000000 00000000"
     "00000000 00000000 09001038 00000005 C8C5D3D3D6"

@@ -18,7 +18,7 @@ HAS_PYTEST = importlib.util.find_spec("pytest") is not None
 # The plugin, once, also if the package is installed.
 PLUGINS = "-p", "no:excp", "-p", "excp.pytest_plugin", "-p", "no:cacheprovider"
 
-# A file of tests. "A job in ten lines" (docs/MANUAL.md) prints HELLO and ends with code 7F.
+# A file of tests. "A job in ten lines" (docs/TUTORIAL.md) prints HELLO and ends with code 7F.
 TESTS = """
 from excp import Area, Ccw, Code, Op
 

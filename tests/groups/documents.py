@@ -2,8 +2,8 @@
 examples; and whether the mutants still apply.
 
 tests/sentences measures the sentences, and tests/definitions finds names of definitions that several crates have. tests/closure
-has the definitions that the headline rests on, tests/lines the tables of the lines of a script. The layers of crates.txt, the steps
-and crates in ARCHITECTURE.md and the code that CLIENT.md and ADDING-A-DEVICE.md quote are compared with the sources, and so is what
+has the definitions that the headline rests on, tools/reference.py what pages have of tables of the code. The layers of crates.txt,
+the steps in ARCHITECTURE.md and the code that CLIENT.md and ADDING-A-DEVICE.md quote are compared with the sources, and so is what
 crates.txt lists. tests/comments measures the comments of the code, and finds phrases of tests/phrases. tools/refusals.py finds what
 each call rejects in its comment. tests/edits applies the mutants to the code as it is. tests/examples.py has the jobs and the
 commands of the pages. mypy, if it is installed, checks the types of python/excp. A README that names another kit is a warning.
@@ -133,19 +133,6 @@ def steps_hold():
             require(re.search(rf"\b(fn|struct|trait) {item}\b", code), f"step {number}: no {item} in {file}")
 
 
-def crates_are_listed():
-    """The list of crates in ARCHITECTURE.md has each crate of crates.txt once, in its layer, and no other."""
-    layers, _ = listed()
-    text = read(f"{TOP}/docs/ARCHITECTURE.md").partition("## Crates, by layer\n")[2].partition("\n## ")[0]
-    found = []
-    for part in re.split(r"^\*\*(?=\w)", text, flags=re.M)[1:]:
-        layer = re.match(r"[\w/]+", part)[0]
-        for names in re.findall(r"^- ((?:\*\*\w+\*\*(?:, )?)+):", part, re.M):
-            found += [(name, layer) for name in re.findall(r"\w+", names)]
-    crates = sorted((name, layer) for name, layer in found if layer != "python/excp")
-    require(crates == sorted(layers.items()), f"they differ in {sorted({*crates} ^ {*layers.items()})}")
-
-
 # The pages that quote code, and a block of code in them, behind a line that ends with its file.
 QUOTING = ["CLIENT.md", "ADDING-A-DEVICE.md"]
 
@@ -207,7 +194,8 @@ def cases(setup):
                "tests/definitions, crates with known faults")
     yield Case("definitions of the headline", lambda: passes("closure", "--check"), "docs/PROVED.md, by tests/closure")
     yield Case("the list of the headline", lambda: passes("closure", "--self-test"), "tests/closure, specs with a known list")
-    yield Case("the lines of a script", lambda: passes("lines", "--check"), "docs/MANUAL.md, by python/excp/script")
+    yield Case("what pages have of tables", lambda: passes("reference.py", "--check", folder="tools"),
+               "docs/MANUAL.md and docs/ARCHITECTURE.md, by tools/reference.py")
     yield Case("what calls reject", lambda: passes("refusals.py", folder="tools"),
                "tools/refusals.py, by the comments of the calls")
     yield Case("edits of mutants", lambda: passes("edits"), "docs/TESTING.md, by tests/edits")
@@ -218,7 +206,6 @@ def cases(setup):
     yield Case("what crates.txt lists", lists_what_is_used, "crates.txt, by the sources")
     yield Case("commands left out", lambda: left_out_is_rejected(setup), "docs/SPECIFICATION.md, 8.8")
     yield Case("steps of a request", steps_hold, "docs/ARCHITECTURE.md, by the sources")
-    yield Case("the list of crates", crates_are_listed, "docs/ARCHITECTURE.md, by crates.txt")
     for page in QUOTING:
         yield Case(f"quotes of {page}", lambda page=page: quotes_hold(page), f"docs/{page}, by the sources")
     yield Case("comments", lambda: passes("comments"), "tests/comments and tests/phrases, by CONTRIBUTING.md")

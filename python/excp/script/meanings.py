@@ -1,8 +1,9 @@
-"""What each line of a script means, in words. docs/MANUAL.md has them, by `tests/lines`."""
+"""What each line of a script or a scenario means, in words. docs/MANUAL.md has them, by
+`tools/reference.py`."""
 
 from __future__ import annotations
 
-from typing import Mapping
+from typing import Mapping, NamedTuple
 
 from .limits import (
     HIGHEST_ADDRESS, LEAST_TAPE_BYTES, LEAST_TRACK_BYTES, MOST_AREA_BYTES, MOST_DATA_BYTES,
@@ -33,4 +34,78 @@ MEANINGS: Mapping[str, str] = {
     "close": "closes a DCB; if it is closed, nothing changes",
     "reset": "clears the error flag of a DCB; if it is not open, nothing changes",
     "wait": "waits until it has the posts of all its requests so far",
+}
+
+
+class Event(NamedTuple):
+    """What an event of a scenario does, and what it answers."""
+
+    says: str
+    answers: str
+
+
+_NO_DCB = "`NoSuchDcb`"
+
+# By the first words of lines, those that a script has too among them.
+EVENTS: Mapping[str, Event] = {
+    "excp": Event(
+        "issues a request",
+        "`Accepted T U N`; `Full` if the way to the unit has no room; `NoNumber` after the last "
+        "number",
+    ),
+    "take": Event(
+        "the first request on its way to unit U arrives",
+        "`Took T U N`; `Held` if the unit has no room",
+    ),
+    "start": Event(
+        "starts what comes next",
+        "`Started T U N`; `Violated T U N` if posted 42; `Busy` while a program runs or its status "
+        "is pending; `Idle` if nothing waits",
+    ),
+    "run": Event(
+        "the active program does up to N commands, 1 to 65,535",
+        "`Ran C`; `Ran C pending` if its status is pending now",
+    ),
+    "interrupt": Event(
+        "takes the pending status",
+        "`Ended T U N CODE`; `Again T U N` if it is to be tried again",
+    ),
+    "deliver": Event(
+        "the first posted request goes on its way to its task",
+        "`Delivered T U N`; `Full T U N` if there is no room",
+    ),
+    "collect": Event("task T collects its next post", "the `post` line of a run"),
+    "purge": Event(
+        "purges a DCB",
+        f"`Active T U N` if a covered request is active after it; {_NO_DCB}",
+    ),
+    "purgetask": Event("purges task X", "the answers of all units, in order, with commas"),
+    "purgetaskat": Event("purges task X on unit U alone", "as `purge`"),
+    "close": Event(
+        "closes a DCB", f"`Closed`; `Closing T U N` until this request has ended; {_NO_DCB}"
+    ),
+    "reset": Event("clears the error flag of a DCB", f"`Reset`; {_NO_DCB} if none is open"),
+    "open": Event(
+        "opens a DCB, also between events", "`Opened N`; `BadExtent`; `TooManyDcbs`"
+    ),
+    "settle": Event("ends all that waits or is active at unit U", "`Settled`"),
+    "serve": Event(
+        "takes, starts, runs, interrupts and delivers, until nothing changes",
+        "the answers of `deliver`, with commas",
+    ),
+    "finish": Event(
+        "ends all, and the scenario",
+        "`Finished N`, and on N lines the posts that no task collected",
+    ),
+    "expect": Event(
+        "no event: the answer of the one before it; further `expect` lines have its further lines",
+        "a text on standard error, and in the end status 1, if the answer differs",
+    ),
+}
+
+# What `room` limits, by its second word.
+SIZES: Mapping[str, str] = {
+    "intake": "the requests on their way to each unit",
+    "post": "the posts on their way to each task",
+    "book": "the requests at unit U",
 }
