@@ -1,4 +1,7 @@
 /* excp.c: the functions of excp.h. Each tests its pointers and calls the export of crates/excp_c that has its name behind `excp_call_`.
+ * Pointers are tested in C, since a reference of Rattle is never NULL. The caller holds the handle, a mark and a pointer: a table of
+ * handles would need a mutable global, which the kit lacks. Each export tests the mark, which a zeroed or freed handle lacks. Media are
+ * put piece by piece, because a slice of structs with pointers cannot be checked.
  * tools/library.py builds it, and gives it EXCP_VERSION, and EXCP_IS_PROVED: 1 if it links exports that were proved. */
 #include "excp.h"
 

@@ -1,4 +1,4 @@
-/* Refuses calls of a program: preloaded into it, those calls of one kind fail whose numbers REFUSE has (one or two, from
+/* Refuses calls of a program, since a Rattle test cannot make memory fail: preloaded into it, those calls of one kind fail whose numbers REFUSE has (one or two, from
  * 1; 0 for none). REFUSE_KIND is `growth` for malloc and realloc, which then answer that there is no memory, `lasting` for
  * the same from the first such number on, `write` for what is written to standard output, `thread` for threads, which
  * then cannot be made, and `file` for what is written to other files, synced and renamed. At such a call `kill` kills the

@@ -7,6 +7,7 @@ line says what rejects it:
     rejected by: test CRATE NAME       the test of that crate fails; nothing is proved, as by `rt try --test`
     rejected by: run GROUP CASE ..     the cases of tests/run with these words in their names fail on a program with the edit, and
                                        pass on one with none; both are built with nothing proved, as by `./excp --try`
+                                       (of the group costs without AddressSanitizer, under which some bounds let them pass)
 
 Kept work is what `rt check` or `rt lib` leaves in crates/CRATE/out. If a crate has none, as after `rt ci` in a new clone,
 the crate is proved first. The crates below have to be built by `rt lib`.

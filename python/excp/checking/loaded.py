@@ -1,4 +1,7 @@
-"""Units whose media come from images: the sizes in their lines, and why an image does not fit."""
+"""Units whose media come from images: the sizes in their lines, and why an image does not fit.
+
+A script is read after its images, since its lines may leave their sizes to them.
+"""
 
 from __future__ import annotations
 

@@ -1,4 +1,5 @@
-"""Races: what a run does depends on which of two commands comes first."""
+"""Races: what a run does depends on which of two commands comes first. They are notes and no
+faults, because a race may be what the script is for."""
 
 from __future__ import annotations
 

@@ -1,4 +1,5 @@
-"""Prints a form of the record that a program writes, in a thread of its own."""
+"""Prints a form of the record that a program writes, in a thread of its own. The main thread waits
+for the program and for signals, so a signal ends a report whose reader has stopped."""
 
 from __future__ import annotations
 

@@ -51,7 +51,8 @@ class Rejected(Exception):
 
 
 class ReaderGone(Exception):
-    """Nothing reads the output any more. No text is printed."""
+    """Nothing reads the output any more. No text is printed, and the status is 0, but of `check` 1,
+    because it prints only findings."""
 
 
 def name_of(file: Optional[str]) -> str:

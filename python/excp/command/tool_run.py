@@ -1,4 +1,5 @@
-"""Runs excp_tools on a script, and says what it leaves to be said.
+"""Runs excp_tools on a script, and says what it leaves to be said. It has no command line of its
+own: options, files and symbols are judged here.
 
 The files of media are open here: the program loads an image, and fills a new file, by the number of
 its descriptor. The new files take the places of their targets after a good end.

@@ -1,4 +1,8 @@
-"""New files that a program fills. All of them, or none, take the places of their targets."""
+"""New files that a program fills. All of them, or none, take the places of their targets.
+
+That holds up to the renames: all are synced before the first takes its place, and what can be
+tested of them is tested before the run.
+"""
 
 from __future__ import annotations
 

@@ -1,4 +1,8 @@
-"""Steps that are carried out from the beginning of a job, each time on a site of its own."""
+"""Steps that are carried out from the beginning of a job, each time on a site of its own.
+
+A post is printed only if steps gave it: what the search proposes, the library carries out, so each
+outcome is lawful. Fifty steps cost a millisecond.
+"""
 
 from __future__ import annotations
 

@@ -1,5 +1,9 @@
 """Which build of a program runs: the proved one if there is one, else one with nothing proved,
-which is built if need be."""
+which is built if need be. A result in a minute comes before a proof in half an hour.
+
+A proved program stays in use until the next one is whole, also if a source is newer: one line says
+so.
+"""
 
 from __future__ import annotations
 

@@ -1,6 +1,10 @@
 """The record of a program's proof, `PROGRAM.proof` beside it: of which sources it was proved, and
 which file it is. `tools/prove.py` writes it. An installed program that is not proved has
-`PROGRAM.unproved` in its place."""
+`PROGRAM.unproved` in its place.
+
+A plain run compares sizes and times, because the sums take half a second. `--version`, `--proved`
+and `--install` compare the sums.
+"""
 
 from __future__ import annotations
 

@@ -1,5 +1,6 @@
 """What lies on a medium, in the lines of a script that declare it. Comments have what no line
-declares, and the text of keys, data and blocks."""
+declares, and the text of keys, data and blocks. Faults are left out: some are used up, and the
+others count from mounting."""
 
 from __future__ import annotations
 

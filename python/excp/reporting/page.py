@@ -2,7 +2,8 @@
 
 The scripts of the viewer are one script, in the order below, without comments and indentation. The
 page is ASCII but for its title and its JSON. Its content security policy allows its own style and
-script by their hashes, and nothing else.
+script by their hashes, and nothing else. It is drawn in the browser: no contract says what a page
+shows, and tests compare it with its JSON.
 """
 
 from __future__ import annotations

@@ -1,5 +1,6 @@
 """A report as text: the posts, and of each unit its history and its medium. It is made as the
-record comes, and keeps no more than the commands of one entry."""
+record comes, and keeps no more than the commands of one entry. It is text of a script, so that its
+media can be the set-up of a next job."""
 
 from __future__ import annotations
 

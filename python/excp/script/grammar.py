@@ -212,6 +212,8 @@ class Collect(Command):
 
 @dataclass(frozen=True)
 class PurgeTaskAt(PurgeTask):
+    """With it a scenario has events between the units of a `purgetask`, as a run can."""
+
     form = "T X halt U, or quiesce"
     unit: Index
 

@@ -1,5 +1,5 @@
 """The choice among steps that a seed makes, the same on every machine and in every version
-(docs/SPECIFICATION.md)."""
+(docs/SPECIFICATION.md). A seed repeats a run without the file of a schedule."""
 
 from __future__ import annotations
 

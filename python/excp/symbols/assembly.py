@@ -1,4 +1,5 @@
-"""Jobs in symbols, assembled line by line to plain scripts with the same number of lines."""
+"""Jobs in symbols, assembled line by line to plain scripts with the same number of lines: faults of
+the plain script are at the lines of the job. `check` finds all that is wrong in plain lines."""
 
 from __future__ import annotations
 

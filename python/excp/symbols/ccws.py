@@ -1,4 +1,5 @@
-"""The statements of CCWs: a mnemonic, `CCW` or `TIC`."""
+"""The statements of CCWs: a mnemonic, `CCW` or `TIC`. Operands are address, count, flags, because
+flags are most often left out."""
 
 from __future__ import annotations
 

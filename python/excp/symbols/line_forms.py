@@ -151,7 +151,8 @@ def form_of(line: Word) -> Optional[LineForm]:
 
 
 def has_symbols(script: bytes) -> bool:
-    """Whether a script has the end of a symbolic area, or a line with a symbolic form."""
+    """Whether a script has the end of a symbolic area, or a line with a symbolic form. No plain
+    script has either, so every other script means what it means to `run`."""
     for text in script.decode("latin-1").split("\n"):
         if text.lstrip(BLANKS).startswith(("endarea", *_LINE_FORMS)):
             line = Word(before_comment(text).removesuffix("\r"), 0, 1)
