@@ -1,6 +1,6 @@
 """The commands of devices: the one table of their codes, mnemonics, devices, data and names.
 
-docs/SPECIFICATION.md has the commands of each kind of device, docs/ASSEMBLER.md the mnemonics. The
+docs/SPECIFICATION.md has the commands of each kind of device, docs/MANUAL.md the mnemonics. The
 mnemonics are those of IBM's books on channel programs if these have one, and else the profile's.
 """
 
