@@ -117,7 +117,7 @@ class Area:
         return bytes(self._storage)
 
     def _image(self) -> bytes:
-        """The storage as far as it can be laid out. Changes nothing."""
+        """The storage, without pieces that cannot be laid out. Changes nothing."""
         storage = bytearray(self._storage)
         for place, piece in self._pieces:
             with contextlib.suppress(ValueError):

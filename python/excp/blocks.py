@@ -14,7 +14,7 @@ from typing import Mapping, Optional, SupportsIndex, Tuple, Union
 from .device_commands import FLAGS, Flag as Flag, Op as Op
 from .device_status import STATUS_BITS, with_names
 
-# An address, or the label of an area that stands for one.
+# An address, or a label of an area.
 Address = Union[int, str]
 
 

@@ -37,8 +37,8 @@ class Calls:
             call(name, self._site, *values)
 
     def finds(self, name: str, none: Status, *values: Any) -> bool:
-        """Makes a call that looks for something. Returns whether there is such a thing: if not,
-        the call has the status `none`. Raises as `call`."""
+        """Makes a call that looks for something. Returns whether it exists: if not, the call has
+        the status `none`. Raises as `call`."""
         with self.lock:
             status = status_of(name, self._site, *values)
             if status == none:

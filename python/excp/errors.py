@@ -76,7 +76,7 @@ class BadImage(BadMedium):
 
 
 class NoImage(ExcpError):
-    """No image has such a disk: it came from none, and no model has as many heads and bytes a
+    """No image can hold this disk: it came from none, and no model has its heads and bytes a
     track."""
 
 

@@ -55,7 +55,7 @@ def _in_order(findings: Iterable[Finding]) -> list[Finding]:
 
 
 class _Check:
-    """What a script declares as far as it was read, and what was found in it."""
+    """What the lines read so far declare, and what was found in them."""
 
     def __init__(self, script: Assembled, images: Images) -> None:
         self.findings: list[Finding] = []
@@ -149,8 +149,8 @@ class _Check:
         self._assume(number, text, word or text.first)
 
     def _assume(self, number: int, text: Text, first: str) -> None:
-        """Takes a line with a fault for what it was to say. `first` is its first word, or the one
-        that this may mean."""
+        """Assumes what a line with a fault was meant to declare. `first` is its first word, or
+        the known word nearest to it."""
         kind = SCRIPT_LINES.get(first)
         if kind is None:
             return

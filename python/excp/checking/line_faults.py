@@ -27,8 +27,8 @@ def refused_line(
 
 
 def _explanation(text: Text, images: Images) -> Optional[str]:
-    """Why a line is not as it should be, if its words alone do not tell: a comment after them, or
-    a hyphen for a size that no image gives."""
+    """A better explanation than a wrong word: a comment after the words, or a hyphen for a size
+    that no image gives."""
     if text.first not in SCRIPT_LINES or text.unprintable:
         return None
     for sign in _SIGNS:

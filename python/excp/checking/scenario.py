@@ -159,7 +159,7 @@ class ScenarioCheck:
 
 
 def _refused_line(number: int, text: Text, refused: Refused, images: Images) -> Finding:
-    """The fault of a line of a scenario. If only a job in symbols has such a line, it says that."""
+    """The fault of a line of a scenario. It says if only a job in symbols has such a line."""
     sentence = _sentence_on_symbols(text)
     if sentence is not None:
         return Finding(number, sentence, refused.name)

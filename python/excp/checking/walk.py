@@ -100,9 +100,9 @@ class Walk:
         self._passed: set[int] = set()
 
     def follow(self, start: int) -> None:
-        """Looks at the commands from the first one on, as far as the program is sure to come to
-        them if none fails before. A search is taken to find its record; the CCW that is skipped
-        then is looked at too. Raises SureFailure."""
+        """Checks the commands that the program is sure to reach if none fails before. Each search
+        counts as finding its record; the CCW that is skipped then is checked too. Raises
+        SureFailure."""
         at, is_first = start, True
         for _ in range(_MOST_COMMANDS):
             chain = self._step(at, is_first)

@@ -1,5 +1,5 @@
-"""What is said, or done, of a script that has faults: before a program is built to run it, and
-after a run that has rejected it."""
+"""Reports the faults of a script: before a program is built to run it, and after a run that has
+rejected it."""
 
 from __future__ import annotations
 

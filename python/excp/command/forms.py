@@ -19,8 +19,8 @@ STEPS, ALL_STEPS = "steps", "all-steps"
 
 @dataclass(frozen=True)
 class Form:
-    """A form: the part of a record that it needs, with so many commands of each unit, and what
-    makes its pieces of text."""
+    """A form: the part of a record that it needs, with at most `most` commands of each unit, and
+    what makes its pieces of text."""
 
     part: Part
     pieces: Callable[[Record], Iterator[str]]
@@ -33,7 +33,7 @@ class Form:
 
 
 def json_form(title: str, most: Optional[int]) -> Form:
-    """The JSON of a report with this title and so many commands of each unit."""
+    """The JSON of a report with this title and at most `most` commands of each unit."""
     from ..reporting.run_json import json_report
 
     # commands that it leaves out touch the media too
@@ -41,7 +41,7 @@ def json_form(title: str, most: Optional[int]) -> Form:
 
 
 def text_form(name: Optional[str], most: Optional[int], look: Look, script: Assembled) -> Form:
-    """The text with the name of its option, or without one; with so many commands of each unit of a
+    """The text of an option, or without one; with at most `most` commands of each unit of a
     script."""
     # no form needs to wait for the modules of the others
     if name == "posts":

@@ -48,7 +48,7 @@ def _carried_out(here: Home, words: List[str]) -> int:
         return _run(here, mode, words[1:])
     if words[0] in WORDS:
         return _word(here, mode, words)
-    # the script is the first word, or the last one behind options
+    # the script is the first word, or the last one after options
     return _script(here, mode, words, may_be_word=True)
 
 
@@ -126,12 +126,12 @@ def _run(here: Home, mode: Mode, words: List[str]) -> int:
 def _word(here: Home, mode: Mode, words: List[str]) -> int:
     if len(words) == 2 and words[1] in _HELP:
         return _print_page(words[0])
-    # a word may ask for a program again, and what is said of its build is said once
+    # a word may ask for a program again, and its build is reported once
     return main(words, lru_cache(maxsize=None)(lambda program: choose(here, program, mode)))
 
 
 def _script(here: Home, mode: Mode, words: List[str], may_be_word: bool) -> int:
-    """Runs a script, which is the first word, or the last one behind options."""
+    """Runs a script, which is the first word, or the last one after options."""
     from .run import Run, run_script
 
     is_last = _is_option(words[0])

@@ -1,4 +1,4 @@
-"""The script that most words take: its argument, and the plain script that it comes to."""
+"""The script that most words take: its argument, and the plain script made of it."""
 
 from __future__ import annotations
 
@@ -12,7 +12,7 @@ from ..symbols import Assembled, assemble, has_symbols
 from .streams import Rejected, print_findings, read_script
 
 
-# What is said of a file that is no text.
+# The text on a file that is no text.
 _NO_TEXT = "; the file has zero bytes, so it is no script, and no other fault is printed"
 
 

@@ -15,7 +15,7 @@ from .streams import ERRORS, Rejected, name_of, of_file, print_findings
 
 
 def unit_of_script(file: Optional[str], why_not: Callable[[Unit], Optional[str]]) -> Unit:
-    """The one unit of a script, of which no line is at fault, and which can be mounted.
+    """The one unit of a script without faults.
 
     `why_not` says why it is not the right one. Raises Rejected after it has printed what is found
     in the script, and Ended.

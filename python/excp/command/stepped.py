@@ -148,8 +148,8 @@ class _Step:
         return REJECTED
 
     def _hand_over(self, scenario: Scenario) -> None:
-        """Prints the record at the end, if that is wanted. Of a file, and at a terminal, it names
-        the requests that are left; a program that writes the lines has them."""
+        """Prints the record at the end, if one is asked for. Of a file, and at a terminal, it names
+        the requests that no unit took; a program that writes the lines knows them."""
         if self._is_handed_over or scenario.stage is None:
             return
         self._is_handed_over = True

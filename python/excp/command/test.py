@@ -67,7 +67,7 @@ def _selected(paths: Sequence[str], words: Sequence[str]) -> Sequence[TestFile]:
 
 
 def _no_name(words: Sequence[str], tests: Sequence[TestFile]) -> str:
-    """What is said if no test has one of these words in its name."""
+    """The text if no test has one of these words in its name."""
     known = names_without_ending(tests)
     near = next(filter(None, (nearest(it, known) for it in words)), None)
     instead = f"; did you mean '{near}'?" if near else ""

@@ -1,4 +1,4 @@
-"""The units that a script declares, as far as files of their media need that."""
+"""What files of media need of the units that a script declares."""
 
 from __future__ import annotations
 

@@ -23,8 +23,8 @@ Check = Callable[[Assembled, Images], Sequence[Finding]]
 
 @dataclass(frozen=True)
 class WholeScript:
-    """A script: the name of its file, None for standard input; what its text comes to; and what
-    finds its faults."""
+    """A script: the name of its file, None for standard input; its assembled text; and what finds
+    its faults."""
 
     file: Optional[str]
     script: Assembled

@@ -120,8 +120,7 @@ class Edition:
 
 
 def _with_operation(number: int, found: re.Match[str], text: str) -> str:
-    """What is said of operands that begin with an operation, with the words that do what is
-    meant."""
+    """The text on operands that begin with an operation, with the words to type instead."""
     operation, *operands = text.split(maxsplit=1)
     label = found["label"]
     right = f"set {number} {label}: {text}"

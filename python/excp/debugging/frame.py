@@ -114,6 +114,6 @@ def _medium(session: Session, lines: int) -> Sequence[str]:
 
 
 def _window(rows: Sequence[str], lines: int, at: int) -> Sequence[str]:
-    """So many of some rows, with that at a place among them."""
+    """At most `lines` of the rows, with row `at` among them."""
     first = max(0, min(at - lines // 2, len(rows) - lines))
     return rows[first : first + max(lines, 0)]

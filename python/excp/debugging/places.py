@@ -61,7 +61,7 @@ def _no_label(name: str, walk: Walk) -> str:
 
 def range_in(word: str, walk: Walk, length: Optional[int] = None) -> Range:
     """The bytes of `PLACE,LENGTH` that are in the area. Without a length they are those of the
-    statement that has the label, or so many. Raises Unknown."""
+    statement that has the label, or `length` bytes. Raises Unknown."""
     found = _RANGE.fullmatch(word)
     if found is None:
         raise Unknown(f"'{word}' is no place: expected {FORM}, and then ,LENGTH")

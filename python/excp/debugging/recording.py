@@ -75,7 +75,7 @@ class UnitRun:
         self._posts.append(post)
 
     def request(self, at: int) -> RequestRun:
-        """The request that it posted after so many others."""
+        """Request `at`, in the order of posts."""
         return RequestRun(
             task=self._tasks[at],
             unit=self.number,

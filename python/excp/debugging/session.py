@@ -218,7 +218,7 @@ class Session:
 
 
 def start_lines(session: Session) -> List[str]:
-    """What is said at the start of a session."""
+    """The lines at the start of a session."""
     walk = session.walk
     return [f"{_ends(walk)}; help lists the words", session.views.position(walk)]
 

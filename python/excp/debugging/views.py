@@ -135,8 +135,8 @@ class Views:
     def storage(
         self, walk: Walk, address: int, length: int, row: int = _ROW
     ) -> Iterator[str]:
-        """Rows of so many bytes, with a sign for those in which the request has changed any, and
-        the labels that begin there. Rows of zeros without a label are left out."""
+        """Rows of `row` bytes, with a sign if the request has changed any of them, and the labels
+        that begin there. Rows of zeros without a label are left out."""
         labels = labels_at(walk)
         is_left_out = False
         for at in range(address, address + length, row):
@@ -247,13 +247,13 @@ def _plain_program(walk: Walk, at: Set[int]) -> Iterator[str]:
 
 
 def _row(data: bytes, row: int) -> str:
-    """The digits of a row of so many bytes in groups, as wide as a full one."""
+    """The digits of a row in groups, padded to the width of `row` bytes."""
     groups = [data[at : at + _GROUP].hex().upper() for at in range(0, len(data), _GROUP)]
     return f"{' '.join(groups):{row * 2 + row // _GROUP - 1}}"
 
 
 def _around(count: int, at: int) -> Sequence[int]:
-    """The places around one of so many."""
+    """The places around place `at`, of `count`."""
     first = max(0, min(at - _AROUND, count - 2 * _AROUND - 1))
     return range(first, min(count, first + 2 * _AROUND + 1))
 

@@ -49,7 +49,7 @@ class Differs(ValueError):
 
 
 class Walk:
-    """A place in a run that has requests: at one of them, after so many of its steps. The last
+    """A place in a run that has requests: at one of them, after a number of its steps. The last
     step is the post. Each method raises NotKept."""
 
     def __init__(self, recording: Recording, job: Job) -> None:
@@ -223,7 +223,7 @@ class Walk:
         return sum(len(it) for it in units if it.number < unit)
 
     def go_to(self, at: int, step: int) -> None:
-        """Goes to a request, after so many of its steps; to the last one before it, if steps of
+        """Goes to request `at`, after `step` of its steps; to the last one before it, if steps of
         that are left out."""
         unit = self.recording.request(at).unit
         if unit != self.request.unit:

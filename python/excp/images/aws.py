@@ -129,7 +129,7 @@ def _judged(
 
 
 def _judge_flags(flags: int, length: int, offset: int) -> None:
-    """Raises ImageFault unless flags are known, and belong to so many bytes of data."""
+    """Raises ImageFault unless flags are known, and allow `length` bytes of data."""
     packing = flags & PACKING_BITS
     if (
         flags - packing not in (MARK, WHOLE, FIRST, MIDDLE, LAST)
@@ -172,7 +172,7 @@ def _too_long(offset: int) -> ImageFault:
 
 
 def _whole(block: _OpenBlock, offset: int) -> ReadItem:
-    """A block whose last chunk was read, the header of which is at this offset."""
+    """A block that is complete. The header of its last chunk is at this offset."""
     packing = Packing(block.packing)
     try:
         data = unpacked(b"".join(block.parts), packing, MOST_DATA_BYTES)

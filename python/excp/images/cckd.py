@@ -32,7 +32,7 @@ HIGH_BYTE_FIRST = 0x02
 FIRST_TABLE = 2 * PACKED_HEADER
 TRACKS_A_TABLE = 256
 
-# A place in the file that says: the file of which this is a shadow has it.
+# In place of an offset: the track is in the file of which this is a shadow.
 ELSEWHERE = 0xFFFF_FFFF
 
 # The forms of null tracks: an end of file after R0, nothing after R0, and twelve records of 4,096
@@ -83,7 +83,7 @@ class PackedDisk:
         return found
 
     def _read(self, offset: int, length: int, rule: DiskRule) -> bytes:
-        """So many bytes of the file. Raises ImageFault if it has fewer."""
+        """`length` bytes of the file. Raises ImageFault if it has fewer."""
         try:
             self._file.seek(offset)
             found = self._file.read(length)

@@ -123,8 +123,8 @@ class PlainDisk:
             self._judge_end(number, offset, len(image))
 
     def _judge_end(self, tracks: int, offset: int, rest: int) -> None:
-        """Raises ImageFault unless an image ends after whole cylinders; `rest` bytes are left after
-        so many tracks."""
+        """Raises ImageFault unless an image of `tracks` tracks ends after whole cylinders. `rest`
+        is the number of bytes after them."""
         if rest or tracks == 0 or tracks % self.sizes.heads:
             cylinders, more = divmod(tracks, self.sizes.heads)
             found = f": {cylinders} cylinders and {more} tracks of {self.sizes.heads}"

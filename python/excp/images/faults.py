@@ -7,7 +7,7 @@ from typing import Union
 
 
 class TapeRule(Enum):
-    """A rule for images of tapes, as docs/FORMATS.md has it; the first part of what is said of an
+    """A rule for images of tapes, as docs/FORMATS.md has it. Its value begins the message on an
     image that breaks it."""
 
     NO_FAKE_TAPE = "the image is a FakeTape file"

@@ -39,8 +39,8 @@ MeasuredImage = Union[TapeFile, DiskFile]
 
 
 def measured(name: str) -> MeasuredImage:
-    """An image, all of which is judged, and nothing kept. Raises Unreadable if the file cannot be
-    read, or breaks a rule."""
+    """Tests a whole image, and keeps only its size. Raises Unreadable if the file cannot be read,
+    or breaks a rule."""
     with opened_image(name) as file:
         if is_disk(file):
             image = disk_image(file)

@@ -48,7 +48,7 @@ def packed(data: bytes, level: int) -> bytes:
 
 
 def _zlib(data: bytes, most: int) -> Tuple[bytes, bool]:
-    """At most so many bytes of what is unpacked by zlib, and whether data and result end
+    """At most `most` bytes of the data unpacked by zlib, and whether data and result end
     together."""
     try:
         import zlib

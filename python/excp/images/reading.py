@@ -111,7 +111,7 @@ def disk_image(file: BinaryIO) -> Union[PlainDisk, PackedDisk]:
 
 
 def size_of_disk(image: DiskImage, tracks: int) -> Geometry:
-    """The size of a disk with so many tracks, which are whole cylinders."""
+    """The size of a disk with this number of tracks, which are whole cylinders."""
     return Geometry(tracks // image.sizes.heads, image.sizes.heads, image.sizes.track_bytes)
 
 

@@ -66,7 +66,7 @@ def _first_extent(data: bytes, heads: int) -> Tuple[int, int]:
 
 
 def _records(image: DiskImage, first: int, last: int) -> Iterator[Record]:
-    """The records of these tracks, as far as the disk has them."""
+    """The records of those of these tracks that the disk has."""
     if first > last:
         return
     for number, track in enumerate(image.tracks(first), first):

@@ -1,5 +1,5 @@
-"""Programs that end with this process: it hands on a signal that ends it, and they get SIGTERM if
-it is killed."""
+"""Programs that end with this process: they get each signal that ends it, and SIGTERM if it is
+killed."""
 
 from __future__ import annotations
 

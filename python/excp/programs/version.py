@@ -24,7 +24,7 @@ class Build(NamedTuple):
 
 
 def build_of(file: Path) -> Build:
-    """What the build of a program in a file is, as far as sizes and times tell."""
+    """The build of a program in a file, by sizes and times."""
     here = Home(home().top, file.parent)
     is_proved = why_not(here, file.name) is None
     record = record_of(here, file.name, PROOF if is_proved else UNPROVED)

@@ -9,7 +9,7 @@ from .look import Look
 from .record import Members
 from .texts import counted
 
-# What is said of why a request ends that was started. All other reasons keep it from being started.
+# The reasons for the end of a request that was started. All others keep it from being started.
 _AFTER_START = {None: "", "halted": ", halted", "not tried again": ", not tried again: purged"}
 
 

@@ -12,8 +12,8 @@ _LONGEST = 4
 
 
 class Fold(NamedTuple):
-    """Steps that come so many times in a row: as they came first, and as they came last. They
-    differ in their places alone."""
+    """Steps that repeat `times` times in a row: the first round, and the last. They differ only
+    in their places."""
 
     first: Sequence[Step]
     last: Sequence[Step]

@@ -52,7 +52,7 @@ class KeptText:
         return found == data
 
     def lines_at(self, place: int, count: int) -> List[str]:
-        """So many lines from a place on, without their line feeds."""
+        """`count` lines from a place on, without their line feeds."""
         try:
             self._file.seek(place)
             lines = [line.decode()[:-1] for line in islice(self._file, count)]

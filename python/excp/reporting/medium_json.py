@@ -112,8 +112,8 @@ def _tape(record: Record, touched: AbstractSet[str]) -> Iterator[str]:
 
 
 def _items(touched: AbstractSet[str], count: int) -> AbstractSet[int]:
-    """The numbers of the touched items of a tape that has so many. At its load point a tape is at
-    its first item."""
+    """The numbers of the touched items of a tape with `count` items. At its load point a tape is
+    at its first item."""
     numbers = {max(int(part.rpartition(":")[2]), 1) for part in touched}
     return {it for it in numbers if it <= count}
 

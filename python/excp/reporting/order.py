@@ -17,7 +17,7 @@ _KINDS = {"arrived": _ARRIVAL, "posted": _POST, **dict.fromkeys(CONTROLS, _CONTR
 
 
 class UnitEvents:
-    """The events of a unit, as far as their order goes, in compact form; and their columns."""
+    """What the order of a unit's events depends on, in compact form; and their columns."""
 
     def __init__(self, unit: int) -> None:
         self._unit = unit

@@ -50,7 +50,7 @@ class About:
 
 
 def page_report(record: Record, about: About, most: int) -> Iterator[str]:
-    """The page of a run in pieces, with so many commands of each unit. Raises NotKept."""
+    """The page of a run in pieces, with at most `most` commands of each unit. Raises NotKept."""
     if record.what is None:
         return
     run = RunJson(record, about.title, most)

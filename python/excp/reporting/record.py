@@ -74,7 +74,7 @@ class Record:
         self._next = next(self._lines, "")
         if not self._next.endswith("\n"):
             self.what = None
-            # what gives the lines may tell why there is no more
+            # the source of the lines may raise the reason for their end
             next(self._lines, None)
         elif found := _WHAT.match(self._next):
             self.what = found[1]

@@ -27,7 +27,7 @@ _NEXT_LIST = "],\n["
 
 
 def json_report(record: Record, title: str, most: int) -> Iterator[str]:
-    """The JSON of a run in pieces, with so many commands of each unit. Raises NotKept."""
+    """The JSON of a run in pieces, with at most `most` commands of each unit. Raises NotKept."""
     if record.what is None:
         return iter(())
     run = RunJson(record, title, most)
@@ -96,7 +96,7 @@ class RunJson:
 
 
 def _task_lists(record: Record, tasks: Tasks, count: int) -> Iterator[str]:
-    """What each of so many tasks did, a list of each, which is added to what tasks did."""
+    """The list of what each of `count` tasks did. Adds it to `tasks`."""
     reached, comma = 0, ""
     yield "\n["
     for line in record.all_of(*TASK_EVENTS):

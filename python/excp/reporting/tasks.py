@@ -11,7 +11,7 @@ from .record import Members
 
 
 class Deed(NamedTuple):
-    """What a task did before something: its first things, so many."""
+    """The first `things` things that a task did, which come before something."""
 
     task: int
     things: int
@@ -46,7 +46,7 @@ class _Requests:
         self._counts, self._are_unposted = array("I"), bytearray()
 
     def issue(self, number: int, count: int) -> None:
-        """A request is issued after so many things."""
+        """A request is issued after `count` things."""
         missing = max(number - len(self._counts), 0)
         self._counts.extend([0] * missing)
         self._are_unposted.extend(bytes(missing))

@@ -152,8 +152,8 @@ def is_symbolic(word: str) -> bool:
 
 
 def meant_of(word: str, known: Iterable[str]) -> Optional[str]:
-    """The known first word that may be meant by an unknown one. A name in capitals is of a
-    symbolic area, unless it is such a word itself in small letters."""
+    """The known first word nearest to an unknown one. A name in capitals belongs to a symbolic
+    area, unless it is a known word in capitals."""
     small = word.lower()
     found = nearest(small, known)
     return None if is_symbolic(word) and found != small else found

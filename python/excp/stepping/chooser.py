@@ -47,7 +47,7 @@ class Chooser:
         self._favour, self._generator = seed % 3, Pcg32(seed)
 
     def choose(self, steps: Sequence[Item], is_command: Callable[[Item], bool]) -> Item:
-        """One of these steps, of which there is at least one."""
+        """One of these steps, at least one of which is given."""
         for _ in range(2):
             step = self._draw(steps)
             if self._favour == 0 or (self._favour == 1) == is_command(step):

@@ -24,7 +24,7 @@ _FAULT = re.compile(r',"fault":null.*\}$')
 
 
 def record_lines(stage: Stage, part: Part, most: Optional[int] = None) -> Iterator[str]:
-    """The lines of a part of the record of what happened on a stage, with at most so many commands
+    """The lines of a part of the record of what happened on a stage, with at most `most` commands
     of each unit."""
     site, past = stage.site, stage.past
     head = f'"format":"excp-record 1","tasks":{site.tasks},"order":"run"'

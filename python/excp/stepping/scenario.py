@@ -32,8 +32,8 @@ _OF_UNITS = (FaultName.MEDIUM, FaultName.EXTENT)
 
 
 class Wanted(NamedTuple):
-    """What is wanted of a scenario: the entries or the states of units after each event, the record
-    at its end, and words beside the numbers of answers."""
+    """What a scenario prints: the entries or the states of units after each event, the record at
+    its end, and words beside the numbers of answers."""
 
     trace: bool = False
     state: bool = False

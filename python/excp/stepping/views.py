@@ -38,7 +38,7 @@ def _dcbs(unit: Unit) -> Iterator[str]:
 
 
 class Trace:
-    """The entries of a unit, of which those up to now are not printed."""
+    """The entries of a unit. Prints only those from now on."""
 
     def __init__(self, unit: Unit) -> None:
         self._unit, self._count = unit, unit.count_entries()

@@ -1,4 +1,4 @@
-"""What a job in symbols comes to, and where its words are in the plain script."""
+"""The result of assembling a job, and where its words are in the plain script."""
 
 from __future__ import annotations
 
@@ -32,7 +32,7 @@ class AreaLayout(NamedTuple):
 
 @dataclass(frozen=True)
 class Assembled:
-    """What a job in symbols comes to: a plain script, or findings.
+    """The result of assembling a job: a plain script, or findings.
 
     Line N of the script is line N of the job. The line of a symbolic area is that of its
     `endarea`: `place` and `opening_line` lead from what is found in an area to the words of the

@@ -52,7 +52,7 @@ def assemble(job: bytes) -> Assembled:
 
 
 class _Assembly:
-    """A script as far as it was assembled."""
+    """The part of a script that was assembled."""
 
     def __init__(self) -> None:
         self.script: list[str] = []
@@ -126,8 +126,8 @@ class _Assembly:
     def _readable(self, text: str) -> str:
         """What a line says, without its comment and the blanks at its end.
 
-        A tab is a mistake, of which the first alone is reported. Its line is read all the same, so
-        that what it defines is defined.
+        A tab is a mistake. Only the first is reported. Its line is still read, so that its labels
+        are defined.
         """
         said = before_comment(text)
         found = re.search("[^ -~]", said)

@@ -50,7 +50,7 @@ class _Constant(NamedTuple):
 
 
 def value(words: Iterable[Word], most: int = MOST_DATA_BYTES) -> bytes:
-    """The bytes of constants and `fill N`, at most so many."""
+    """The bytes of constants and `fill N`, at most `most`."""
     image = bytearray()
     pad: Optional[bytes] = None
     words = iter(words)

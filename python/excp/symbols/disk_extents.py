@@ -22,8 +22,8 @@ NO_EXTENT = (
 
 
 class DeclaredUnit(NamedTuple):
-    """A unit as far as extents need it: its number, its device, and the sizes of a disk, zeros if
-    its image has them."""
+    """What extents need of a unit: its number, its device, and the sizes of a disk, zeros if its
+    image has them."""
 
     number: int
     device: str

@@ -125,8 +125,8 @@ def _digits(words: Sequence[Word]) -> str:
 
 
 class LineForm(NamedTuple):
-    """A symbolic form. A line has it if one of its words, after so many, has an apostrophe or is a
-    sign, in capitals or not."""
+    """A symbolic form. A line has it if a word after its first `before` words has an apostrophe or
+    is a sign, in capitals or not."""
 
     before: int
     signs: tuple[str, ...]

@@ -97,7 +97,7 @@ class SourceMap:
         return requests[number - 1] if 0 < number <= len(requests) else None
 
     def area_of(self, task: int, unit: int, number: int) -> Optional[AreaSource]:
-        """The area of which a request has a copy."""
+        """The area that a request has a copy of."""
         request = self.request(task, unit, number)
         if request is None or request.area >= len(self.areas):
             return None

@@ -35,7 +35,7 @@ DATA, IOB, ECB, IDAW = (
 
 
 def number_in(image: bytes) -> int:
-    """The number in bytes, the first of which is the highest."""
+    """The number in bytes, the highest byte first."""
     return int.from_bytes(image, "big")
 
 

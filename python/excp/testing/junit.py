@@ -20,7 +20,7 @@ _NAMES = {Verdict.FAILED: "failure", Verdict.NO_EXPECTATION: "skipped"}
 
 
 def junit(results: Sequence[Result], seconds: float, begun: datetime) -> bytes:
-    """The document with the results of all tests, which took so many seconds."""
+    """The document with the results of all tests, and the seconds that they took."""
     counts = {
         "name": _SUITE,
         "tests": str(len(results)),
