@@ -34,7 +34,7 @@ BEGIN, END = "<!-- tools/reference.py writes {} -->\n", "<!-- the end of {} -->\
 OPTION = re.compile(r"^ +(-.*?)  +(\S.*)$", re.M)
 
 # The most words of a crate's first sentence. A longer one is cut at its colon.
-MOST_WORDS = 16
+MOST_WORDS = 13
 
 
 def table(titles, rows):
