@@ -81,7 +81,7 @@ def receive(area: Area, links: list[Link], some: bytes) -> None:
 
 
 def ending(links: list[Link], moved: int) -> tuple[Link, int]:
-    """The CCW where a command ended that moved so many bytes, and what is left of its count."""
+    """The CCW where a command ended after it moved some bytes, and the rest of its count."""
     for link in links[:-1]:
         if moved < link.count:
             return link, link.count - moved

@@ -17,7 +17,7 @@ JOBS = ["docs/TUTORIAL.md"]
 COMMAND = re.compile(r"(?:\$ )?(?:\./|tests/|tools/|cd |rt |job=|head )")
 
 # ./excp of a folder in which commands run: it runs the programs that are tested, on a file or with a subcommand, and the package.
-# The job whose outcomes the pages show has several, of which the status tells.
+# The job whose outcomes the pages show has several, so its status is 5.
 EXCP = """#!/usr/bin/env bash
 set -o pipefail
 case "$1" in

@@ -367,7 +367,7 @@ def packed_image_of(volume, methods):
 
 
 def packed_tape_of(items, method, length=65_535):
-    """The HET image of a tape, each block compressed by a method, in chunks of at most so many bytes."""
+    """The HET image of a tape, each block compressed by a method, in chunks of limited size."""
     image, previous = b"", 0
     for block in items:
         data = b"" if block is None else {1: zlib.compress, 2: bz2.compress}[method](block)

@@ -16,7 +16,7 @@ DOCUMENT = f"{TOP}/docs/REPORT.md"
 HEXADECIMAL = {"address": 6, "status": 4, "residual": 4, "sense": 4, "iob_at": 6, "iob": 80, "image": 16, "id": 10,
                "shown": None, "key": None, "data": None, "code": 2, "seek": 16, "start": 6}
 
-# What tells the kinds of media and of places: a member that only one of them has.
+# The kinds of media and of places, each by a member that only it has.
 MEDIA = {"cylinders": "disk", "count": "tape in part", "items": "tape", "lines": "printer"}
 PLACES = "passed", "record", "item", "page"
 

@@ -108,7 +108,7 @@ class Maker:
         return f"{word} {task} {unit} {dcb}"
 
     def dcbs_of(self, unit):
-        """Three DCBs of a unit, different ones if it has so many."""
+        """Three DCBs of a unit, different ones if it has three."""
         dcbs = [dcb for it, dcb in self.dcbs if it == unit]
         self.chance.shuffle(dcbs)
         return (dcbs * 3)[:3]
@@ -152,7 +152,7 @@ def count_of(commands):
 
 
 def small_job(seed, tasks=2, units=1, requests=4, controls=2, waits=1):
-    """The script of a job with at most so many of each."""
+    """The script of a job with at most these numbers of each."""
     chance = random.Random(f"small {seed}")
     job = Maker(chance, tasks, units)
     lines = job.set_up()

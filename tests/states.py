@@ -34,7 +34,7 @@ def record_of(setup, script):
 
 
 def record_by_seed(script, seed, most=None):
-    """The lines of the record of a script, with all steps or so many of each unit, by the schedule of a seed."""
+    """The lines of the record of a script by the schedule of a seed, with all steps or the first ones of each unit."""
     os.environ[PLACE] = LIBRARY
     run = schedule.Schedule(schedule.Job(script.encode()), seed, {}, keeps_lines=False)
     run.run()
@@ -42,7 +42,7 @@ def record_by_seed(script, seed, most=None):
 
 
 def record_of_scenario(text, most=None):
-    """The lines of the record of a scenario, with all steps or so many of each unit."""
+    """The lines of the record of a scenario, with all steps or the first ones of each unit."""
     os.environ[PLACE] = LIBRARY
     run = Scenario(ScenarioCheck({}), Wanted(record=True), lambda set_up: None, lambda: {})
     for number, line in enumerate(text.splitlines(), 1):

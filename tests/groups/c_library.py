@@ -48,7 +48,7 @@ OWN_STATUSES = {"OK": 0, "NULL_POINTER": 2, "NO_SITE": 3, "SITE_IN_USE": 4}
 
 
 def sources():
-    """The Rattle files of the exports, one behind the other."""
+    """The Rattle files of the exports, one after the other."""
     return "\n".join(read(f"{CRATE}/src/{name}") for name in sorted(os.listdir(f"{CRATE}/src")))
 
 

@@ -152,7 +152,7 @@ def loads_an_image(setup):
 
 
 def long_job(requests, commands):
-    """A job of so many requests with so many no-operations each."""
+    """A job of some requests with the same number of no-operations each."""
     program = "CP:     NOP   CC\n" + "        NOP   CC\n" * (commands - 2) + "        NOP\n"
     head = "tasks 1\ntape 0 0 100\nopen 0 in\narea 0\nIOB:    IOB   ecb=ECB start=CP dcb=1\nECB:    ECB\n"
     return f"{head}{program}endarea\n" + "excp 0 0 1 IOB 0 IOB 0\n" * requests

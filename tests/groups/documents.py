@@ -43,7 +43,7 @@ def has_types():
 
 
 def listed():
-    """The layer of each crate of crates.txt, and the crates that it stands on."""
+    """The layer of each crate of crates.txt, and the crates that it uses."""
     layer, layers, below = "", {}, {}
     for line in read(f"{TOP}/crates.txt").splitlines()[1:]:
         if line.startswith("# "):
@@ -56,7 +56,7 @@ def listed():
 
 
 def layers_hold():
-    """No crate of crates.txt stands on a crate of a layer above its own."""
+    """No crate of crates.txt uses a crate of a layer above its own."""
     layers, below = listed()
     order = list(dict.fromkeys(layers.values()))
     stands_above = lambda name, it: it in layers and order.index(layers[it]) > order.index(layers[name])
@@ -133,7 +133,7 @@ def steps_hold():
             require(re.search(rf"\b(fn|struct|trait) {item}\b", code), f"step {number}: no {item} in {file}")
 
 
-# The pages that quote code, and a block of code in them, behind a line that ends with its file.
+# The pages that quote code, and a block of code in them, after a line that ends with its file.
 QUOTING = ["CLIENT.md", "ADDING-A-DEVICE.md"]
 
 QUOTE = re.compile(r"`([^`\n]+)`:\n\n```\w*\n(.*?)\n```$", re.M | re.S)

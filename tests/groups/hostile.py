@@ -109,7 +109,7 @@ NO_OPERATION = "7F 001038 0C00 0001 0000 -"
 
 
 def of_everyone(count):
-    """Each of so many tasks issues a request to each of so many units."""
+    """Each task issues a request to each unit."""
     units = [f"tape {unit} {unit % 8} 4" for unit in range(count)]
     opens = [f"open {unit} in" for unit in range(count)]
     excps = [f"excp {task} {unit} 1 001000 0 001000 0" for unit in range(count) for task in range(count)]
@@ -130,13 +130,13 @@ def of_dcb(number, count):
 
 
 def with_area(size):
-    """A request on an area of so many bytes, the last of which is shown."""
+    """A request on an area of this size. It shows the last byte."""
     excp = f"excp 0 0 1 001000 0 {0x1000 + size - 1:06X} 1"
     return lines(*TAPE, "open 0 in", area(0, 1, rest=size - 0x38), excp)
 
 
 def with_block(size):
-    """A tape that has room for a block of so many bytes."""
+    """A tape that has room for a block of this size."""
     return lines("tasks 1", "tape 0 0 100000", f"block 0 {'C1' * size}")
 
 
