@@ -3,11 +3,13 @@
 
     tools/reference.py            prints them
     tools/reference.py --write    writes each between its two marks in its page
-    tools/reference.py --check    fails if a page has another text there; the last line is `N passed, M failed`
+    tools/reference.py --check    fails if a page has another text there; the last line is
+                                  `N passed, M failed`
 
-docs/MANUAL.md has the lines of scripts and scenarios (python/excp/script), the options of words (python/excp/help, compared with the
-parsers of python/excp/command), the faults that `check` finds (python/excp/findings.py) and the exit statuses
-(python/excp/command/statuses.py). docs/ARCHITECTURE.md has the crates (crates.txt, and the first sentence of each lib.rt or main.rt),
+docs/MANUAL.md has the lines of scripts and scenarios (python/excp/script), the options of words
+(python/excp/help, compared with the parsers of python/excp/command), the faults that `check` finds
+(python/excp/findings.py) and the exit statuses (python/excp/command/statuses.py).
+docs/ARCHITECTURE.md has the crates (crates.txt, and the first sentence of each lib.rt or main.rt),
 and the folders of python/excp by theirs.
 """
 
@@ -24,7 +26,7 @@ from excp.command.help import page_of  # noqa: E402
 from excp.command.parser import WordParser  # noqa: E402
 from excp.command.statuses import STATUSES  # noqa: E402
 from excp.command.words import WORDS  # noqa: E402
-from excp.findings import FAULTS  # noqa: E402
+from excp.findings import FAULTS, FaultName  # noqa: E402
 from excp.script.grammar import COMMAND_WORDS, EVENT_LINES, SCRIPT_LINES, SIZES_BY_ROW  # noqa: E402
 from excp.script.meanings import EVENTS, MEANINGS, SIZES  # noqa: E402
 
@@ -36,11 +38,25 @@ OPTION = re.compile(r"^ +(-.*?)  +(\S.*)$", re.M)
 # The most words of a crate's first sentence. A longer one is cut at its colon.
 MOST_WORDS = 13
 
+# The most columns of a line of a list.
+COLUMNS = 100
+
+
+def read(file):
+    with open(f"{TOP}/{file}", encoding="utf-8") as it:
+        return it.read()
+
 
 def table(titles, rows):
-    """A table of Markdown. A bar in a cell parts no cells."""
-    lines = [titles, ["---"] * len(titles), *rows]
-    return "".join("|{}|\n".format("|".join(it if it == "---" else f" {it} ".replace("  ", " ") for it in line)) for line in lines)
+    """A table of Markdown."""
+    lines = [f"| {' | '.join(row)} |\n".replace("|  |", "| |") for row in [titles, *rows]]
+    return "".join([lines[0], f"|{'---|' * len(titles)}\n", *lines[1:]])
+
+
+def has_all(name, found, wanted):
+    """Raises SystemExit if a table lacks a row."""
+    if not set(wanted) <= set(found):
+        raise SystemExit(f"{name} has no row for {sorted(map(str, set(wanted) - set(found)))}")
 
 
 def form(word, kind):
@@ -51,88 +67,102 @@ def form(word, kind):
 def lines():
     """The tables of set-up lines and of commands."""
     set_up = [word for word in SCRIPT_LINES if word not in COMMAND_WORDS]
-    rows = lambda words: [(form(word, SCRIPT_LINES[word]), MEANINGS[word]) for word in words]
-    return f"{table(('Set-up line', 'Meaning'), rows(set_up))}\n{table(('Command of task T', 'Meaning'), rows(COMMAND_WORDS))}"
+
+    def part(title, words):
+        rows = [(form(word, SCRIPT_LINES[word]), MEANINGS[word]) for word in words]
+        return table((title, "Meaning"), rows)
+
+    return f"{part('Set-up line', set_up)}\n{part('Command of task T', COMMAND_WORDS)}"
 
 
 def events():
-    """The tables of what a scenario has before its first event, and of its events."""
-    sizes = [(f"`room {word}{kind.form[kind.form.index(' '):]}`", SIZES[word]) for word, kind in SIZES_BY_ROW.items()]
+    """The tables of the events of a scenario, and of what it has before the first one."""
     kinds = {**SCRIPT_LINES, **EVENT_LINES}
+    has_all("EVENTS", EVENTS, {*COMMAND_WORDS, *EVENT_LINES} - {"wait", "room"})
     rows = [(form(word, kinds[word]), it.says, it.answers) for word, it in EVENTS.items()]
+    # the first word of a form is that of the row
+    sizes = [
+        (f"`room {word} {kind.form.partition(' ')[2]}`", SIZES[word])
+        for word, kind in SIZES_BY_ROW.items()
+    ]
     before = table(("Before the first event", "Meaning"), sizes)
     return f"{table(('Event', 'What it does', 'Answers'), rows)}\n{before}"
 
 
 def options_of(word):
-    """The options of a word, with what each does, by its page of help. Raises SystemExit if its parser has others."""
-    said = OPTION.findall((page_of(word) or "").partition("\nOptions:\n")[2].partition("\n\n")[0])
+    """The options of a word, by its page of help. Raises SystemExit if its parser has others."""
+    part = (page_of(word) or "").partition("\nOptions:\n")[2].partition("\n\n")[0]
+    said = [re.sub("[<>]", "", option) for option, _ in OPTION.findall(part)]
     parser = WordParser(word)
     WORDS[word].load().add_arguments(parser)
-    known = {it for it in parser._option_string_actions}
-    named = {it for option, _ in said for it in re.findall(r"-[-\w]+", re.sub("<.*?>", "", option))}
+    known = set(parser._option_string_actions)
+    named = {it for option in said for it in re.findall(r"(?:^| )(-[-\w]+)", option)}
     if known != named:
         raise SystemExit(f"excp {word}: the help and the parser differ in {sorted(known ^ named)}")
-    return [it for it in said if not it[0].startswith("-h")]
+    return [it for it in said if not it.startswith("-h")]
 
 
 def options():
     """The table of words, with the options of each."""
-    named = lambda word: " ".join(f"`{re.sub('[<>]', '', option)}`" for option, _ in options_of(word))
-    return table(("Word", "What it does", "Options"), [(f"`{name}`", it.says, named(name)) for name, it in WORDS.items()])
+    rows = [
+        (f"`{name}`", word.says, " ".join(f"`{it}`" for it in options_of(name)))
+        for name, word in WORDS.items()
+    ]
+    return table(("Word", "What it does", "Options"), rows)
 
 
 def faults():
     """The table of the names of faults."""
-    return table(("Name", "What is wrong"), [(f"`{name.value}`", says) for name, says in FAULTS.items()])
+    has_all("FAULTS", FAULTS, FaultName)
+    rows = [(f"`{name.value}`", says) for name, says in FAULTS.items()]
+    return table(("Name", "What is wrong"), rows)
 
 
 def statuses():
     """The table of exit statuses."""
-    return table(("Status", "Meaning"), [(f"{status}", says) for status, says in STATUSES.items()])
+    return table(("Status", "Meaning"), [(f"{it}", says) for it, says in STATUSES.items()])
 
 
 def first_sentence(text):
-    """The first sentence of a comment of a crate or of a package, without its full stop; of a long one what is before its colon."""
+    """The first sentence of a comment, without its full stop; of a long one what is before its
+    colon."""
     sentence = re.split(r"\.(?:\s|$)", " ".join(text.split()))[0]
     return sentence if len(sentence.split()) <= MOST_WORDS else sentence.partition(": ")[0]
 
 
 def comment_of(crate):
     """The first comment of a crate."""
-    source = f"{TOP}/crates/{crate}/src"
-    name = "lib.rt" if os.path.exists(f"{source}/lib.rt") else "main.rt"
-    with open(f"{source}/{name}", encoding="utf-8") as file:
-        return re.match(r"(?://! .*\n)*", file.read())[0].replace("//! ", "")
+    files = (f"crates/{crate}/src/{name}.rt" for name in ("lib", "main"))
+    text = read(next(it for it in files if os.path.exists(f"{TOP}/{it}")))
+    return re.match(r"(?://! .*\n)*", text)[0].replace("//! ", "")
+
+
+def comment_of_folder(folder):
+    """The first comment of a folder of the package."""
+    return read(f"python/excp/{folder}/__init__.py").split('"""')[1]
 
 
 def crates():
     """The crates by layer, and the folders of the package."""
-    with open(f"{TOP}/crates.txt", encoding="utf-8") as file:
-        layers = re.findall(r"^# (\w+)\n((?:\w.*\n?)*)", file.read().partition("\n")[2], re.M)
-    parts = [(layer, re.findall(r"^\w+", names, re.M)) for layer, names in layers]
-    listed = "".join(f"**{layer}**\n\n{''.join(map(crate_line, names))}\n" for layer, names in parts)
-    folders = sorted(it for it in os.listdir(f"{TOP}/python/excp") if os.path.exists(f"{TOP}/python/excp/{it}/__init__.py"))
-    return f"{listed}**python/excp**\n\n{''.join(map(folder_line, folders))}"
+    text = read("crates.txt").partition("\n")[2]
+    parts = []
+    for layer, names in re.findall(r"^# (\w+)\n((?:\w.*\n?)*)", text, re.M):
+        items = [item(name, comment_of(name)) for name in re.findall(r"^\w+", names, re.M)]
+        parts.append(f"**{layer}**\n\n{''.join(items)}")
+    package = f"{TOP}/python/excp"
+    folders = [it for it in os.listdir(package) if os.path.exists(f"{package}/{it}/__init__.py")]
+    items = [item(name, comment_of_folder(name)) for name in sorted(folders)]
+    return "\n".join([*parts, f"**python/excp**\n\n{''.join(items)}"])
 
 
-def crate_line(crate):
-    return wrapped(f"- **{crate}**: {first_sentence(comment_of(crate))}")
-
-
-def folder_line(folder):
-    with open(f"{TOP}/python/excp/{folder}/__init__.py", encoding="utf-8") as file:
-        return wrapped(f"- **{folder}**: {first_sentence(file.read().split(chr(34) * 3)[1])}")
-
-
-def wrapped(item):
-    """An item of a list in lines of at most 100 columns."""
-    lines = [""]
-    for word in item.split(" "):
-        if len(lines[-1]) + 1 + len(word) > 100:
-            lines.append(" ")
-        lines[-1] += f" {word}" if lines[-1] else word
-    return "".join(f"{line}\n" for line in lines)
+def item(name, comment):
+    """An item of a list, in lines of at most COLUMNS columns."""
+    found = [""]
+    for word in f"- **{name}**: {first_sentence(comment)}".split(" "):
+        if len(found[-1]) + 1 + len(word) > COLUMNS:
+            found.append(" ")
+        found[-1] += f" {word}" if found[-1] else word
+    return "".join(f"{line}\n" for line in found)
 
 
 # What is written, by its page and the name in its marks.
@@ -150,22 +180,23 @@ PARTS = {
 
 def parted(text, name):
     """What of a page is before a part, the part, and what is after it."""
-    before, begin, rest = text.partition(BEGIN.format(name))
-    old, end, after = rest.partition(END.format(name))
-    if not begin or not end:
-        raise SystemExit(f"a page has no lines {BEGIN.format(name)}and {END.format(name)}")
+    begin, end = BEGIN.format(name), END.format(name)
+    before, has_begin, rest = text.partition(begin)
+    old, has_end, after = rest.partition(end)
+    if not has_begin or not has_end:
+        raise SystemExit(f"a page has no lines {begin}and {end}")
     return before + begin, old, end + after
 
 
-def looked_at(page, writes):
+def is_written(page, writes):
     """Writes or compares the parts of a page. Returns whether it had each already."""
-    with open(f"{TOP}/{page}", encoding="utf-8") as file:
-        text = held = file.read()
+    text = held = read(page)
     for name, made in PARTS[page].items():
         before, old, after = parted(text, name)
         new = f"\n{made()}\n"
         if not writes:
-            sys.stdout.writelines(difflib.unified_diff(old.splitlines(True), new.splitlines(True), page, name))
+            both = old.splitlines(True), new.splitlines(True)
+            sys.stdout.writelines(difflib.unified_diff(*both, page, name))
         text = f"{before}{new}{after}"
     if writes:
         with open(f"{TOP}/{page}", "w", encoding="utf-8") as file:
@@ -180,7 +211,7 @@ def main(words):
     if words not in (["--write"], ["--check"]):
         print(__doc__, file=sys.stderr)
         return 2
-    results = [looked_at(page, words == ["--write"]) for page in PARTS]
+    results = [is_written(page, words == ["--write"]) for page in PARTS]
     if words == ["--write"]:
         return 0
     print(f"{results.count(True)} passed, {results.count(False)} failed")
