@@ -8,8 +8,10 @@ to its end.
 import glob
 import os
 import re
+import sys
 import tempfile
 import time
+from dataclasses import replace
 
 from harness import SAMPLES, TOP, Case, expect, read, require, without_states
 from small_jobs import small_job
@@ -49,6 +51,10 @@ EXCP = "excp {} 0 1 001000 {} 001000 0\n"
 ENDED = "7F 001048 0C00 0000 0000 -"
 WAITED = "48 000000 0000 0000 0000 -"
 
+# Such a request and a halt, and what it is posted with if the halt meets its program before its first command, or after a search.
+FEW = DISK + OPEN + PLAIN + EXCP.format(0, 0) + "purge 1 0 1 halt\n"
+HALTED, HALTED_BETWEEN = (f"48 00{address} 0C00 0000 0000 -" for address in (1030, 1038))
+
 # A related request that finds no record, and one of another task to the same DCB that finds one.
 RELATED = DISK + OPEN + area(0, "40", "09") + area(1, "40", "01") + EXCP.format(0, 0) + EXCP.format(1, 1)
 FAILED = "41 001038 0E00 0005 0008 -"
@@ -66,11 +72,11 @@ EARLY_RESET = (DISK + OPEN * 2
 BY_HAND = {
     # A request and a quiesce. If it has not arrived, is active or is posted at the purge, it ends; if it waits, it is purged.
     "a quiesce": (DISK + OPEN + PLAIN + EXCP.format(0, 0) + "purge 1 0 1 quiesce\n", (), {"0 0 1": {ENDED, WAITED}}),
-    # A halt also meets its program before its first command; with turns of one command between its two command steps too.
-    "a halt": (DISK + OPEN + PLAIN + EXCP.format(0, 0) + "purge 1 0 1 halt\n", (),
-               {"0 0 1": {ENDED, WAITED, "48 001030 0C00 0000 0000 -"}}),
-    "a halt, by commands": (DISK + OPEN + PLAIN + EXCP.format(0, 0) + "purge 1 0 1 halt\n", ("--turn", "1"),
-                            {"0 0 1": {ENDED, WAITED, "48 001030 0C00 0000 0000 -", "48 001038 0C00 0000 0000 -"}}),
+    # A halt also meets its program before its first command, and between its searches and its read. With turns of 64 commands it does
+    # not meet it there.
+    "a halt": (FEW, (), {"0 0 1": {ENDED, WAITED, HALTED, HALTED_BETWEEN}}),
+    "a halt, by commands": (FEW, ("--turn", "1"), {"0 0 1": {ENDED, WAITED, HALTED, HALTED_BETWEEN}}),
+    "a halt, by turns": (FEW, ("--turn", "64"), {"0 0 1": {ENDED, WAITED, HALTED}}),
     # A related request that finds no record, and one of another task to the same DCB: that ends well only if it arrives first.
     "a related error": (RELATED, (), {"0 0 1": {FAILED}, "1 0 1": {ENDED, WAITED}}),
     # Two related requests that find no record: the second one is started only if it arrives after the reset.
@@ -140,6 +146,16 @@ MANY = (DISK + OPEN
         + "area 0 001000 4200000000001028 0000000000000000 0000103000000001 0000000000000000 0000000000000001 0000000000000000"
         + " 0300000060000001" * (NO_OPERATIONS - 1) + " 0300000020000001\n" + EXCP.format(0, 0) + "purge 1 0 1 halt\n")
 OUTCOMES_OF_MANY = NO_OPERATIONS + 2
+
+# Requests whose program does two no-operations again and again, until it has fetched 4,096 CCWs, and a halt. A halt after an odd number
+# of commands finds the first of the two done. Between all commands there are too many states for a search that nothing asks for.
+LOOPS = 8
+LOOP, LOOPING = (DISK + OPEN
+                 + "area 0 001000 4200000000001028 0000000000000000 0000103000000001 0000000000000000 0000000000000001 "
+                 + "0000000000000000 0300000060000001 0300000060000001 0800103000000000\n" + EXCP.format(0, 0) * count
+                 + "purge 1 0 1 halt\n" for count in (1, LOOPS))
+AFTER_ODD, AFTER_EVEN = (f"48 00{address} 0C00 0001 0000 -" for address in (1038, 1040))
+LOOPED = "41 001040 0020 0000 0000 -"
 
 # So many outcomes of a request have a scenario, and so many whole outputs are printed, without `--all`.
 MOST = 100
@@ -314,6 +330,20 @@ def is_cut(setup):
             f"the last line is {last!r}")
 
 
+def looks_closely(setup):
+    """Without `--turn`, a search looks between all commands if that is no long search, or if nothing halts a program."""
+    expect(setup.run("outcomes", script=FEW), (5, setup.run("outcomes", "--turn", "1", script=FEW).out))
+    _, last = outcomes_of(setup, LONG, "--most-states", "25000")
+    require(re.search(r" \(turns of 1 command, 2500\d states, ended by --most-states\)$", last), f"the last line is {last!r}")
+    told, last = outcomes_of(setup, LOOPING, "--seeds", "2")
+    require(set(told["0 0 1"]) == {LOOPED, WAITED, HALTED, AFTER_EVEN}, f"the outcomes are {told['0 0 1']}")
+    require(re.fullmatch(f"{LOOPS} requests have more than one outcome "
+                         r"\(turns of 64 commands, \d+ states\); --turn 1 looks between all commands", last), f"the last line is {last!r}")
+    told, last = outcomes_of(setup, LOOP)
+    require(set(told["0 0 1"]) == {LOOPED, WAITED, HALTED, AFTER_ODD, AFTER_EVEN}, f"the outcomes are {told['0 0 1']}")
+    require(re.search(r" \(turns of 1 command, \d+ states\)$", last), f"the last line is {last!r}")
+
+
 def has_many(setup):
     """Without `--all`, the first of each code is printed, the first scenarios are written, and so are the first whole outputs."""
     for words, printed, written in ((), 2, MOST + 1), (("--all",), OUTCOMES_OF_MANY, OUTCOMES_OF_MANY):
@@ -333,14 +363,13 @@ def has_many(setup):
 
 def prints_chosen(setup):
     """`--outcome` prints the scenario that `--scenarios` writes, or that there is none."""
-    script = DISK + OPEN + PLAIN + EXCP.format(0, 0) + "purge 1 0 1 halt\n"
     with tempfile.TemporaryDirectory() as folder:
-        outcomes_of(setup, script, "--scenarios", folder)
-        for number in range(1, 4):
-            expect(setup.run("outcomes", "--outcome", "0", "0", "1", str(number), script=script),
+        outcomes_of(setup, FEW, "--scenarios", folder)
+        for number in range(1, 5):
+            expect(setup.run("outcomes", "--outcome", "0", "0", "1", str(number), script=FEW),
                    (0, read(f"{folder}/post-0-0-1-{number}.scenario")))
-    for task, unit, request, number in (0, 0, 1, 0), (0, 0, 1, 4), (0, 0, 2, 1), (1, 0, 1, 1), (0, 1, 1, 1), (70000, 0, 1, 1):
-        ran = setup.run("outcomes", "--outcome", *map(str, (task, unit, request, number)), script=script)
+    for task, unit, request, number in (0, 0, 1, 0), (0, 0, 1, 5), (0, 0, 2, 1), (1, 0, 1, 1), (0, 1, 1, 1), (70000, 0, 1, 1):
+        ran = setup.run("outcomes", "--outcome", *map(str, (task, unit, request, number)), script=FEW)
         expect(ran, (1, "", f"excp: no outcome {number} of request {request} of task {task} to unit {unit} was found\n"))
 
 
@@ -443,6 +472,38 @@ def hints_lead_to_an_end(setup):
     require(settled >= SETTLED, f"{settled} jobs are deterministic")
 
 
+# A program that hands words and questions on to excp_tools, up to the first changed script. There it ends.
+NO_HINT = """#!{python}
+import os, signal, subprocess, sys
+with subprocess.Popen([{tools!r}, *sys.argv[1:]], stdin=subprocess.PIPE) as child:
+    for line in sys.stdin.buffer:
+        if line.startswith(b"try "):
+            child.kill()
+            {end}
+        child.stdin.write(line)
+        child.stdin.flush()
+    child.stdin.close()
+"""
+
+
+def goes_on_without_hints(setup):
+    """If memory runs out for a changed script, the hints are left out, and nothing else."""
+    script = DISK + OPEN + PLAIN + EXCP.format(0, 0) * 2 + "purge 1 0 1 halt\n"
+    usual = setup.run("outcomes", script=script)
+    hints = re.compile(r"# line \d+ races with .*\n(# (its request|no wait) .*\n)?(#   (before )?line .*\n)*")
+    require(len(hints.findall(usual.out)) == 2, "there are not two hints", usual)
+    without = hints.sub("", usual.out)
+    ends = ("sys.exit(3)", 5, without), ("os.kill(os.getpid(), signal.SIGKILL)", 5, without), ("sys.exit(4)", 4, None)
+    for end, status, output in ends:
+        with tempfile.TemporaryDirectory() as folder:
+            program = f"{folder}/excp_tools"
+            with open(program, "w", encoding="utf-8") as it:
+                it.write(NO_HINT.format(python=sys.executable, tools=os.path.abspath(setup.tools), end=end))
+            os.chmod(program, 0o755)
+            ran = replace(setup, program=f"{folder}/excp_job").run("outcomes", script=script)
+            require(ran.status == status and output in (None, ran.out), f"another end after {end}", ran)
+
+
 def is_compared(setup):
     """Runs by seeds come to outcomes that the search found. A mutant that cuts the set of outcomes is caught by its seeds."""
     script, _, _ = BY_HAND["a quiesce"]
@@ -488,14 +549,14 @@ LONG = ("tasks 6\ntape 0 0 1200\n" + "block 0 01\n" * 60
         + "".join(f"excp {n % 6} 0 1 001000 0 001038 1\n" for n in range(60)))
 
 
-# A request and a halt, and many more of such requests.
-FEW = DISK + OPEN + PLAIN + EXCP.format(0, 0) + "purge 1 0 1 halt\n"
+# Many such requests and a halt.
 READS, MORE_READS = (DISK + OPEN + PLAIN + EXCP.format(0, 0) * count + "purge 1 0 1 halt\n" for count in (30, 500))
 
-# If eight such requests meet a halt, some have ended, one may be active, some may wait, and the others come later. So the outputs
-# are one in which all end, and for each of the two, the places of those that are halted or purged.
+# If eight such requests meet a halt, some have ended, one may be active, some may wait, and the others come later. One that is active
+# is halted before its first command or after a search. So the outputs are one in which all end, and for each of the three, the places
+# of those that are halted or purged.
 EIGHT = DISK + OPEN + PLAIN + EXCP.format(0, 0) * 8 + "purge 1 0 1 halt\n"
-OUTPUTS_OF_EIGHT = 1 + 2 * (8 * 9 // 2)
+OUTPUTS_OF_EIGHT = 1 + 3 * (8 * 9 // 2)
 
 
 def is_ended(setup):
@@ -520,7 +581,7 @@ def is_quick(setup):
     """A job of many requests with one halt is searched to its end: equal states go on only once."""
     told, last = outcomes_of(setup, READS)
     require(len(told) == 30 and last.startswith("30 requests have more than one outcome"), f"the last line is {last!r}")
-    require(told["0 0 30"] == [WAITED, "48 001030 0C00 0000 0000 -", ENDED], f"the last request has {told['0 0 30']}")
+    require(told["0 0 30"] == [WAITED, HALTED, HALTED_BETWEEN, ENDED], f"the last request has {told['0 0 30']}")
     _, _, last = told_by(setup, EIGHT, "--whole")
     require(last.endswith(f", {OUTPUTS_OF_EIGHT} whole outputs)"), f"the last line is {last!r}")
 
@@ -569,10 +630,12 @@ def cases(setup):
         yield Case(f"whole outputs, {name}", lambda s=script, w=wanted: has_outputs(setup, s, w), ORIGIN)
     yield Case("whole outputs, two tasks before one purge", lambda: has_output(setup, THREE, ALL_PURGED), ORIGIN)
     yield Case("a search that is cut", lambda: is_cut(setup), ORIGIN)
+    yield Case("between all commands", lambda: looks_closely(setup), ORIGIN)
     yield Case("many outcomes", lambda: has_many(setup), ORIGIN)
     yield Case("one outcome", lambda: prints_chosen(setup), ORIGIN)
     yield Case("hints hold", lambda: hints_hold(setup), ORIGIN)
     yield Case("hints lead to an end", lambda: hints_lead_to_an_end(setup), ORIGIN)
+    yield Case("hints out of memory", lambda: goes_on_without_hints(setup), ORIGIN)
     yield Case("runs by seeds", lambda: is_compared(setup), ORIGIN)
     yield Case("codes that are allowed", lambda: codes_are_allowed(setup), ORIGIN)
     yield Case("shares of runs", lambda: shares_are_counted(setup), ORIGIN)

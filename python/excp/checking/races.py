@@ -16,7 +16,7 @@ from ..script.set_up import Unit
 from .requests import iob_of
 
 OUTCOMES = (
-    "the order of tasks may decide posts: 'outcomes' prints every one that each request can have"
+    "the order of tasks may decide posts: 'outcomes' looks for those that each request can have"
 )
 
 _TAPE = "task {} uses this tape too (line {}): the order of their requests is not fixed"

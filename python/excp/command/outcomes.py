@@ -21,9 +21,8 @@ _NUMBERS = {
     "often": (1, _MOST),
 }
 
-# The most commands of a turn, and how many runs by seeds a search is compared with, unless said
-# otherwise.
-_TURN, _SEEDS = 64, 20
+# How many runs by seeds a search is compared with, unless said otherwise.
+_SEEDS = 20
 
 _EXCLUSIONS = {
     "often": ("most-seconds", "whole", "all", "outcome", "scenarios", "allow"),
@@ -46,20 +45,16 @@ def add_arguments(parser: argparse.ArgumentParser) -> None:
 
 
 def run(given: argparse.Namespace) -> int:
+    from ..outcomes.looks import Limits
     from .library import use_library
     from .told_outcomes import Wanted, carry_out
 
     check_exclusions(given, _EXCLUSIONS)
-    turn = given.turn or _TURN
-    words = words_of(
-        turn=turn, states=given.most_states, seconds=given.most_seconds, whole=given.whole
-    )
-    order = Order.of(given, "outcomes", words)
+    order = Order.of(given, "outcomes", words_of(whole=given.whole))
     job = read_job(given.script, order.loads)
     use_library(given.program_of)
     wanted = Wanted(
-        turn=turn,
-        most_seconds=given.most_seconds,
+        limits=Limits(given.turn, given.most_states, given.most_seconds),
         seeds=_SEEDS if given.seeds is None else given.seeds,
         often=given.often,
         has_wholes=given.whole,

@@ -14,6 +14,7 @@ from ..files.folder import ScenarioFolder
 from ..files.refusals import Unwritten
 from ..outcomes.bench import Bench
 from ..outcomes.job import NumberedJob
+from ..outcomes.looks import Limits, Look, first_look, look_in_place
 from ..outcomes.running import running
 from ..outcomes.scenarios import scenario_of
 from ..outcomes.search import Found, Search, SearchEnded
@@ -21,7 +22,9 @@ from ..outcomes.summary import Verdict, told_verdict, verdict_of
 from ..outcomes.tally import Tally, shares
 from ..outcomes.telling import Asked, Keeper, Teller
 from ..programs.telling import note
+from ..stepping.schedule import TURN
 from .handing import handed, name_in_texts
+from .options import words_of
 from .seeded import is_rejected
 from .site_files import SiteFiles, site_files
 from .streams import FAILED, REJECTED, Ended, of_file, say_removed, write_at_once
@@ -34,14 +37,18 @@ from .whole_script import WholeScript
 class Wanted:
     """What is asked of the outcomes, as its options say it."""
 
-    turn: int
-    most_seconds: Optional[int]
+    limits: Limits
     seeds: int
     often: Optional[int]
     has_wholes: bool
     tells_all: bool
     outcome: Optional[Sequence[int]]
     allow: Optional[Sequence[str]]
+
+    @property
+    def turn_of_seeds(self) -> int:
+        """The most commands of a turn in runs by seeds, as `report --seed` has it."""
+        return self.limits.turn or TURN
 
 
 def carry_out(order: Order, source: WholeScript, wanted: Wanted) -> int:
@@ -51,8 +58,8 @@ def carry_out(order: Order, source: WholeScript, wanted: Wanted) -> int:
         if wanted.often is not None:
             return _often(order, source, files, wanted, wanted.often)
         try:
-            with _search(order, files) as search:
-                return _Run(order, source, files, wanted, search).status()
+            with _scenario_folder(order) as keeper:
+                return _status(order, source, files, wanted, keeper)
         except SearchEnded as ended:
             return said(order, source, ended.status)
         except OSError as error:
@@ -72,16 +79,33 @@ def _often(
         return REJECTED
     bench = _bench(source, files)
     tally = Tally(bench.job)
-    tally.run_seeds(bench, often, wanted.turn, lambda: True)
+    tally.run_seeds(bench, often, wanted.turn_of_seeds, lambda: True)
     _print("".join(shares(tally, often)))
     return Verdict.SEVERAL if tally.has_several() else Verdict.DETERMINISTIC
 
 
+def _status(
+    order: Order, source: WholeScript, files: SiteFiles, wanted: Wanted, keeper: Optional[Keeper]
+) -> int:
+    """Searches until all is found, or as long as may be. Prints what that search has found, and
+    returns the exit status."""
+    look, begun = first_look(wanted.limits), time.monotonic()
+    while True:
+        with _search(order, files, look) as search:
+            found = search.of_job(source.script.script)
+            bench = _bench(source, files)
+            if found.is_complete or not look.is_first:
+                return _Run(wanted, look, search, found, bench, begun).status(keeper)
+            seconds = int(time.monotonic() - begun)
+            look = look_in_place(wanted.limits, bench.job.has_halt, seconds)
+
+
 @contextlib.contextmanager
-def _search(order: Order, files: SiteFiles) -> Iterator[Search]:
-    """The search of an order, which has the files of its images."""
+def _search(order: Order, files: SiteFiles, look: Look) -> Iterator[Search]:
+    """A search of an order, which has the files of its images."""
     with contextlib.ExitStack() as stack:
         words: List[str] = [str(order.program_of(PROGRAM)), *order.words]
+        words += words_of(turn=look.turn, states=look.states, seconds=look.seconds)
         numbers: List[int] = []
         for unit, file in files.opened().items():
             numbers.append(handed(file.fileno()))
@@ -91,46 +115,42 @@ def _search(order: Order, files: SiteFiles) -> Iterator[Search]:
 
 
 class _Run:
-    """A search, and what is printed of it."""
+    """What a search has found, and what is printed of it."""
 
     def __init__(
-        self, order: Order, source: WholeScript, files: SiteFiles, wanted: Wanted, search: Search
+        self, wanted: Wanted, look: Look, search: Search, found: Found, bench: Bench, begun: float
     ) -> None:
-        self._order, self._source, self._files = order, source, files
-        self._wanted, self._search = wanted, search
-        self._begun = time.monotonic()
+        self._wanted, self._look, self._search = wanted, look, search
+        self._found, self._bench, self._begun = found, bench, begun
 
     def _has_time(self) -> bool:
         """Whether there is time left. The printing may take as long as the search."""
-        most = self._wanted.most_seconds
+        most = self._wanted.limits.seconds
         return most is None or int(time.monotonic() - self._begun) < 2 * most
 
-    def status(self) -> int:
-        """Searches, prints, and returns the exit status."""
-        with _scenario_folder(self._order) as keeper:
-            found = self._search.of_job(self._source.script.script)
-            bench = _bench(self._source, self._files)
-            if self._wanted.outcome is not None:
-                return self._print_one(found, bench, self._wanted.outcome)
-            return self._print_all(found, bench, keeper)
+    def status(self, keeper: Optional[Keeper]) -> int:
+        """Prints, and returns the exit status."""
+        if self._wanted.outcome is not None:
+            return self._print_one(self._wanted.outcome)
+        return self._print_all(keeper)
 
-    def _print_one(self, found: Found, bench: Bench, outcome: Sequence[int]) -> int:
+    def _print_one(self, outcome: Sequence[int]) -> int:
         """Prints the scenario of one outcome."""
-        if not found.is_complete:
+        if not self._found.is_complete:
             note("the search ended early: in a longer one this outcome may have another number")
-        scenario = self._scenario(found, bench, outcome)
+        scenario = self._scenario(outcome)
         if scenario is None:
             task, unit, request, number = outcome
             which = f"outcome {number} of request {request} of task {task} to unit {unit}"
             note(f"no {which} was found")
             return REJECTED
         write_at_once(scenario)
-        return 0 if found.is_complete else Verdict.NOT_ALL
+        return 0 if self._found.is_complete else Verdict.NOT_ALL
 
-    def _scenario(self, found: Found, bench: Bench, outcome: Sequence[int]) -> Optional[bytes]:
-        *name, number = outcome
+    def _scenario(self, outcome: Sequence[int]) -> Optional[bytes]:
+        (*name, number), bench = outcome, self._bench
         request = bench.job.by_name.get(" ".join(map(str, name)))
-        outcomes = [] if request is None else found.outcomes[request.place]
+        outcomes = [] if request is None else self._found.outcomes[request.place]
         if request is None or not 1 <= number <= len(outcomes):
             return None
         steps = self._search.steps_to(request.place, outcomes[number - 1])
@@ -139,10 +159,11 @@ class _Run:
         witness = bench.witness(steps, request, outcomes[number - 1])
         return None if witness is None else scenario_of(bench.job, witness)
 
-    def _print_all(self, found: Found, bench: Bench, keeper: Optional[Keeper]) -> int:
-        wanted, job, tally = self._wanted, bench.job, Tally(bench.job)
+    def _print_all(self, keeper: Optional[Keeper]) -> int:
+        wanted, found, bench = self._wanted, self._found, self._bench
+        job, tally = bench.job, Tally(bench.job)
         seeds = wanted.seeds if found.is_complete else 0
-        tally.run_seeds(bench, seeds, wanted.turn, self._has_time)
+        tally.run_seeds(bench, seeds, wanted.turn_of_seeds, self._has_time)
         missed = tally.missed(found)
         run = self._search.steps_of_run()
         whole = None if run is None else bench.whole(run)
@@ -152,7 +173,7 @@ class _Run:
         teller.tell_all()
         teller.tell_outputs()
         verdict = verdict_of(found, teller.has_lost, teller.is_cut)
-        _print(told_verdict(found, verdict, teller.is_cut, wanted.turn, wanted.has_wholes))
+        _print(told_verdict(found, verdict, teller.is_cut, self._look, wanted.has_wholes))
         if missed is None:
             return verdict if wanted.allow is None else _judged(found, job, verdict, wanted.allow)
         seed, request = missed

@@ -6,8 +6,11 @@ from dataclasses import dataclass
 from functools import cached_property
 from typing import Dict, List, Mapping, Optional, Sequence, Tuple
 
-from ..script.grammar import CommandOfDcb, Excp, PurgeTaskAt
+from ..script.grammar import CommandOfDcb, Excp, Purge, PurgeTaskAt
 from ..stepping.schedule import Job, Step
+
+# The commands that may halt a program, and the mode in which they do.
+_PURGES, _HALT = (Purge, PurgeTaskAt), "halt"
 
 
 @dataclass(frozen=True)
@@ -67,6 +70,12 @@ class NumberedJob:
     def in_order(self) -> Sequence[Request]:
         """The requests in the order in which a run prints their posts."""
         return sorted(self.requests, key=lambda it: (it.task, it.unit, it.number))
+
+    @cached_property
+    def has_halt(self) -> bool:
+        """Whether a purge may halt a program. Only then the length of turns counts."""
+        steps = (step for steps in self.tasks for step in steps)
+        return any(isinstance(it.says, _PURGES) and it.says.mode == _HALT for it in steps)
 
     def task_of_line(self, line: int) -> Optional[int]:
         """The task that does the command of a line."""

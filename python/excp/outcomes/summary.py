@@ -6,6 +6,7 @@ from enum import IntEnum
 from typing import Iterator
 
 from ..script.reading import count_of
+from .looks import Look
 from .search import MEMORY, STATES, WATCH, WHOLE, Found
 
 _ENDS = {
@@ -14,6 +15,9 @@ _ENDS = {
     MEMORY: ", ended by memory",
     WATCH: ", ended by --most-seconds",
 }
+
+# What is said of a search at long turns that was made in place of one between all commands.
+_COARSE = "; --turn 1 looks between all commands"
 
 
 class Verdict(IntEnum):
@@ -35,14 +39,17 @@ def verdict_of(found: Found, has_lost: bool, is_cut: bool) -> Verdict:
     return Verdict.SEVERAL if _several(found) else Verdict.DETERMINISTIC
 
 
-def told_verdict(found: Found, verdict: Verdict, is_cut: bool, turn: int, has_wholes: bool) -> str:
+def told_verdict(
+    found: Found, verdict: Verdict, is_cut: bool, look: Look, has_wholes: bool
+) -> str:
     """The last line."""
     ended = WATCH if is_cut and found.is_complete else found.ended
     counts = [count_of(found.states, "state")]
     if has_wholes:
         counts.append(count_of(len(found.wholes), "whole output"))
-    limits = ", ".join([f"turns of {count_of(turn, 'command')}", *counts])
-    return f"{''.join(_said(found, verdict))} ({limits}{_ENDS[ended]})\n"
+    limits = ", ".join([f"turns of {count_of(look.turn, 'command')}", *counts])
+    more = _COARSE if look.is_coarse and verdict != Verdict.NOT_ALL else ""
+    return f"{''.join(_said(found, verdict))} ({limits}{_ENDS[ended]}){more}\n"
 
 
 def _said(found: Found, verdict: Verdict) -> Iterator[str]:
