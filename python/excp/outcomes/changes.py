@@ -78,6 +78,8 @@ class Trials:
     def __init__(self, search: Search, job: NumberedJob) -> None:
         self._search, self._lines = search, lines_of(job.script)
         self._left = _MOST_STATES
+        # whether no search has run out of memory
+        self.has_memory = True
 
     def may_go_on(self) -> bool:
         """Whether another search may be made."""
@@ -89,6 +91,9 @@ class Trials:
             return None
         text, origins = self._changed(edits)
         found = self._search.of_changed(text, self._left)
+        if found is None:
+            self.has_memory, self._left = False, 0
+            return None
         cost = found.states + len(text) // _TEXT_BYTES + found.bytes // _KEPT_BYTES
         self._left = max(0, self._left - cost)
         return measures(NumberedJob(text), found, origins) if found.is_complete else None

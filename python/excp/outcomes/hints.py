@@ -30,7 +30,12 @@ class _Line:
 
 def hint(trials: Trials, job: NumberedJob, base: Measures, request: Request) -> str:
     """The lines that race with a request, and the changes that make one outcome of it, if such are
-    found. `base` says what the requests have without a change."""
+    found. `base` says what the requests have without a change. It is empty if memory ran out."""
+    text = _hint(trials, job, base, request)
+    return text if trials.has_memory else ""
+
+
+def _hint(trials: Trials, job: NumberedJob, base: Measures, request: Request) -> str:
     issue = _Line(request.line, request.task)
     found = _racing_first(trials, issue, _others_at_its_unit(job, request))
     if found is None:

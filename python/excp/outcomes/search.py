@@ -6,9 +6,12 @@ from __future__ import annotations
 import json
 import subprocess
 from dataclasses import dataclass
-from typing import IO, Any, Iterator, List, Mapping, Optional, Sequence
+from typing import Any, Callable, Iterator, List, Mapping, Optional, Sequence
 
 WHOLE, STATES, MEMORY, WATCH = "whole", "states", "memory", "watch"
+
+# How the program ends if memory ran out; from the second number on, a signal ended it.
+_OUT_OF_MEMORY, _BY_SIGNAL = 3, 128
 
 
 @dataclass(frozen=True)
@@ -50,23 +53,39 @@ class SearchEnded(Exception):
         super().__init__(status)
         self.status = status
 
+    @property
+    def may_lack_memory(self) -> bool:
+        """Whether memory may have run out: the program says so, or a signal has ended it."""
+        return self.status == _OUT_OF_MEMORY or self.status > _BY_SIGNAL
+
 
 class Search:
     """A search. Each method raises SearchEnded if the program ends."""
 
-    def __init__(self, child: subprocess.Popen[bytes]) -> None:
-        assert child.stdin is not None and child.stdout is not None
-        self._child = child
-        self._questions: IO[bytes] = child.stdin
-        self._answers: IO[bytes] = child.stdout
+    def __init__(self, begin: Callable[[], subprocess.Popen[bytes]]) -> None:
+        """`begin` starts the program, with pipes to it."""
+        self._begin = begin
+        self._child = begin()
 
     def of_job(self, text: bytes) -> Found:
         """Searches the job whose text this is. It comes first."""
-        return _found(self._answer(f"job {len(text)}", text))
+        self._job, self._found = text, _found(self._answer(f"job {len(text)}", text))
+        return self._found
 
-    def of_changed(self, text: bytes, most_states: int) -> Found:
-        """Searches a changed job, up to so many states."""
-        return _found(self._answer(f"try {most_states} {len(text)}", text))
+    def of_changed(self, text: bytes, most_states: int) -> Optional[Found]:
+        """Searches a changed job, up to so many states. `None` if memory ran out. Then the job is
+        searched anew, by another child."""
+        try:
+            return _found(self._answer(f"try {most_states} {len(text)}", text))
+        except SearchEnded as ended:
+            before = self._found
+            if not ended.may_lack_memory:
+                raise
+            self.end()
+            self._child = self._begin()
+            if self.of_job(self._job) != before:
+                raise
+            return None
 
     def steps_to(self, request: int, outcome: Outcome) -> Optional[Sequence[str]]:
         """The steps that lead to an outcome of a request."""
@@ -87,15 +106,17 @@ class Search:
     def _answer(self, question: str, text: bytes = b"") -> Iterator[Mapping[str, Any]]:
         """The lines of an answer."""
         try:
-            self._questions.write(f"{question}\n".encode() + text)
-            self._questions.flush()
+            assert self._child.stdin is not None
+            self._child.stdin.write(f"{question}\n".encode() + text)
+            self._child.stdin.flush()
         except BrokenPipeError:
             raise self._ended() from None
         return self._lines()
 
     def _lines(self) -> Iterator[Mapping[str, Any]]:
+        assert self._child.stdout is not None
         while True:
-            line = self._answers.readline()
+            line = self._child.stdout.readline()
             if not line:
                 raise self._ended()
             members = json.loads(line)
