@@ -84,14 +84,14 @@ EXCLUSIVE = {
     ],
     "step": [("json", "trace"), ("json", "state"), ("html", "json"), ("html", "trace"), ("html", "state")],
     "outcomes": [
-        *(("often", other) for other in ("most-seconds", "whole", "all", "outcome", "scenarios", "allow")),
-        *(("outcome", other) for other in ("whole", "all", "scenarios", "allow")),
+        *(("often", other) for other in ("most-seconds", "whole", "all", "outcome", "scenarios", "allow", "fix")),
+        *(("outcome", other) for other in ("whole", "all", "scenarios", "allow", "fix")),
     ],
 }
 
 # A value for each option that takes one.
 VALUES = {"seed": ["1"], "channels": ["2"], "handlers": ["2"], "save": ["0=x"], "often": ["3"], "most-seconds": ["2"]}
-VALUES |= {"outcome": ["0", "0", "1", "1"], "scenarios": ["folder"], "allow": ["7F,48"]}
+VALUES |= {"outcome": ["0", "0", "1", "1"], "scenarios": ["folder"], "allow": ["7F,48"], "fix": ["fixed"]}
 
 # The ranges of numbers.
 RANGES = [

@@ -472,6 +472,87 @@ def hints_lead_to_an_end(setup):
     require(settled >= SETTLED, f"{settled} jobs are deterministic")
 
 
+# How many small jobs are changed by `--fix`, and how many of these are deterministic then at least.
+FIXED = 16
+FIXED_WHOLE = 8
+
+FIX_HEAD = "# the changed job that was written has these changes:"
+FIX_WHOLE = "# with them each request has one outcome"
+FIX_PARTLY = re.compile(r"# with them \d+ requests? ha(s|ve) more than one outcome: lines? (\d+(, \d+)*)")
+
+
+def fix_of(setup, script, folder, *words):
+    """The job that `--fix` writes of a script, or nothing; and the lines of its changes, with the last one on what is left."""
+    file = f"{folder}/fixed"
+    ran = setup.run("outcomes", "--fix", file, *words, script=script)
+    require(ran.err == "" and ran.status in (0, 5), "it fails", ran)
+    if not os.path.exists(file):
+        require(re.search("^# .*, so no changed job is written$", ran.out, re.M), "it does not say why nothing is written", ran)
+        return None, []
+    lines = ran.out.splitlines()
+    return read(file), lines[lines.index(FIX_HEAD) + 1:-1]
+
+
+def are_fixed(setup):
+    """The job that `--fix` writes has the changes that it tells, and fewer outcomes: one of each request, but for those that it names."""
+    whole = tried = 0
+    for seed in range(FIXED):
+        script = small_job(f"fixed {seed}", tasks=3, units=1 + seed % 2, requests=4, controls=2)
+        before, _ = outcomes_of(setup, script)
+        with tempfile.TemporaryDirectory() as folder:
+            new, changes = fix_of(setup, script, folder)
+        if new is None:
+            continue
+        expected, places = changed(script, changes[:-1])
+        require(new == expected, f"job {seed}: it is changed to\n{new}\nand not to\n{expected}")
+        told, last = outcomes_of(setup, new)
+        partly = FIX_PARTLY.fullmatch(changes[-1])
+        require(partly or changes[-1] == FIX_WHOLE, f"job {seed}: {changes[-1]!r}")
+        named = {name_at(new.splitlines(), places[int(it)]) for it in partly[2].split(", ")} if partly else set()
+        several = {name for name, posts in told.items() if len(posts) > 1}
+        require(several == named and outcomes_in(told) < outcomes_in(before), f"job {seed}: {several} have several outcomes; {last}")
+        tried, whole = tried + 1, whole + (not named)
+    require(whole >= FIXED_WHOLE, f"{whole} of {tried} jobs are deterministic")
+
+
+# A job in symbols that a CRLF ends each line of, with blanks that may not be lost, and the same job with what `--fix` changes.
+SYMBOLIC = read(f"{SAMPLES}/outcomes/a-halt.symbolic").replace("purge 1 0 1 halt", "purge  1 0 1 halt  ; of task 1").replace("\n", "\r\n")
+SYMBOLIC_FIXED = SYMBOLIC.replace("purge  1 0", "wait 0\r\npurge  0 0")
+
+
+def leaves_the_text(setup):
+    """A job in symbols stays as it is written, but for the changes. A file is not replaced without `--force`, the script never."""
+    with tempfile.TemporaryDirectory() as folder:
+        job, file = f"{folder}/job", f"{folder}/fixed"
+        write(job, SYMBOLIC)
+        for words in ((), ("--force",)):
+            ran = setup.run("outcomes", "--fix", file, *words, job)
+            require((ran.status, ran.err, read(file)) == (5, "", SYMBOLIC_FIXED), "another job is written", ran)
+        require(setup.run("outcomes", file).status == 0, "it has several outcomes")
+        ran = setup.run("outcomes", "--fix", file, job)
+        expect(ran, (1, "", f"excp: {file}: it holds text, which new text replaces only with --force\n"))
+        ran = setup.run("outcomes", "--fix", job, "--force", job)
+        expect(ran, (1, "", f"excp: {job}: this command reads or saves it: name another file\n"))
+        require((read(job), read(file)) == (SYMBOLIC, SYMBOLIC_FIXED), "a file is no longer what it was")
+
+
+def write(file, text):
+    with open(file, "w", encoding="utf-8", newline="") as it:
+        it.write(text)
+
+
+def says_why_it_writes_nothing(setup):
+    """`--fix` writes nothing if there is nothing to change, or if not all was found."""
+    with tempfile.TemporaryDirectory() as folder:
+        file = f"{folder}/fixed"
+        for script, words, why in (
+            (DISK + OPEN + PLAIN + EXCP.format(0, 0), (), "each request has one outcome"),
+            (FEW, ("--most-states", "2"), "not all was found"),
+        ):
+            ran = setup.run("outcomes", "--fix", file, *words, script=script)
+            require(f"# {why}, so no changed job is written\n" in ran.out and not os.path.exists(file), "it does not say why", ran)
+
+
 # A program that hands words and questions on to excp_tools, up to the first changed script. There it ends.
 NO_HINT = """#!{python}
 import os, signal, subprocess, sys
@@ -636,6 +717,9 @@ def cases(setup):
     yield Case("hints hold", lambda: hints_hold(setup), ORIGIN)
     yield Case("hints lead to an end", lambda: hints_lead_to_an_end(setup), ORIGIN)
     yield Case("hints out of memory", lambda: goes_on_without_hints(setup), ORIGIN)
+    yield Case("fixed jobs", lambda: are_fixed(setup), ORIGIN)
+    yield Case("a fixed job in symbols", lambda: leaves_the_text(setup), ORIGIN)
+    yield Case("no fixed job", lambda: says_why_it_writes_nothing(setup), ORIGIN)
     yield Case("runs by seeds", lambda: is_compared(setup), ORIGIN)
     yield Case("codes that are allowed", lambda: codes_are_allowed(setup), ORIGIN)
     yield Case("shares of runs", lambda: shares_are_counted(setup), ORIGIN)

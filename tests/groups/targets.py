@@ -41,6 +41,7 @@ WORDS = {
     "report, paper": ("report --posts --load 1=other.aws --save 0=FILE", f"tasks 1\n{PRINTER}", "paper"),
     "report, a scenario": ("report --posts --seed 1 --load 1=other.aws --scenario FILE", f"tasks 1\n{MARK}", "scenario"),
     "step": ("step --load 1=other.aws --save 0=FILE", f"tasks 1\n{OWN_DISK}{OTHER}finish\n", "disk"),
+    "outcomes, a job": ("outcomes --allow 7F,48 --load 1=other.aws --fix FILE", f"tasks 1\n{MARK}purge 0 0 1 halt\n", "scenario"),
     "outcomes": ("outcomes --load 1=other.aws --scenarios DIR", f"tasks 1\n{MARK}", "scenario"),
     "convert to aws": ("convert --to aws --output FILE", "tasks 1\ntape 0 0 100\nmark 0\nwait 0\n", "tape"),
     "convert to het": ("convert --to het --output FILE", "tasks 1\ntape 0 0 100\nmark 0\nwait 0\n", "packed tape"),

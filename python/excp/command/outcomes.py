@@ -25,8 +25,8 @@ _NUMBERS = {
 _SEEDS = 20
 
 _EXCLUSIONS = {
-    "often": ("most-seconds", "whole", "all", "outcome", "scenarios", "allow"),
-    "outcome": ("whole", "all", "scenarios", "allow"),
+    "often": ("most-seconds", "whole", "all", "outcome", "scenarios", "allow", "fix"),
+    "outcome": ("whole", "all", "scenarios", "allow", "fix"),
 }
 
 
@@ -39,6 +39,7 @@ def add_arguments(parser: argparse.ArgumentParser) -> None:
     parser.add_argument("--outcome", nargs=len(place), metavar=place, type=number(0, _MOST))
     parser.add_argument("--allow", type=codes, metavar="CODES", help="the codes that are no error")
     parser.add_argument("--scenarios", metavar="DIR", help="a scenario for each outcome")
+    parser.add_argument("--fix", metavar="FILE", help="the job with the changes of hints")
     add_force(parser)
     add_load(parser)
     add_script(parser)
@@ -61,5 +62,6 @@ def run(given: argparse.Namespace) -> int:
         tells_all=given.all,
         outcome=given.outcome,
         allow=given.allow,
+        fix=given.fix,
     )
     return carry_out(order, job, wanted)

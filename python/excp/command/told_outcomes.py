@@ -13,6 +13,7 @@ from ..checking.loaded import with_sizes
 from ..files.folder import ScenarioFolder
 from ..files.refusals import Unwritten
 from ..outcomes.bench import Bench
+from ..outcomes.fixing import fixed
 from ..outcomes.job import NumberedJob
 from ..outcomes.looks import Limits, Look, first_look, look_in_place
 from ..outcomes.running import running
@@ -23,6 +24,7 @@ from ..outcomes.tally import Tally, shares
 from ..outcomes.telling import Asked, Keeper, Teller
 from ..programs.telling import note
 from ..stepping.schedule import TURN
+from .fix_file import FixFile, fix_file
 from .handing import handed, name_in_texts
 from .options import words_of
 from .seeded import is_rejected
@@ -44,6 +46,7 @@ class Wanted:
     tells_all: bool
     outcome: Optional[Sequence[int]]
     allow: Optional[Sequence[str]]
+    fix: Optional[str]
 
     @property
     def turn_of_seeds(self) -> int:
@@ -58,8 +61,9 @@ def carry_out(order: Order, source: WholeScript, wanted: Wanted) -> int:
         if wanted.often is not None:
             return _often(order, source, files, wanted, wanted.often)
         try:
+            fix = fix_file(order, wanted.fix)
             with _scenario_folder(order) as keeper:
-                return _status(order, source, files, wanted, keeper)
+                return _status(order, source, files, wanted, Kept(keeper, fix))
         except SearchEnded as ended:
             return said(order, source, ended.status)
         except OSError as error:
@@ -84,8 +88,16 @@ def _often(
     return Verdict.SEVERAL if tally.has_several() else Verdict.DETERMINISTIC
 
 
+@dataclass(frozen=True)
+class Kept:
+    """What takes scenarios and a changed job, if they are wanted."""
+
+    keeper: Optional[Keeper]
+    fix: Optional[FixFile]
+
+
 def _status(
-    order: Order, source: WholeScript, files: SiteFiles, wanted: Wanted, keeper: Optional[Keeper]
+    order: Order, source: WholeScript, files: SiteFiles, wanted: Wanted, kept: Kept
 ) -> int:
     """Searches until all is found, or as long as may be. Prints what that search has found, and
     returns the exit status."""
@@ -95,7 +107,7 @@ def _status(
             found = search.of_job(source.script.script)
             bench = _bench(source, files)
             if found.is_complete or not look.is_first:
-                return _Run(wanted, look, search, found, bench, begun).status(keeper)
+                return _Run(source, wanted, look, search, found, bench, begun).status(kept)
             seconds = int(time.monotonic() - begun)
             look = look_in_place(wanted.limits, bench.job.has_halt, seconds)
 
@@ -118,9 +130,16 @@ class _Run:
     """What a search has found, and what is printed of it."""
 
     def __init__(
-        self, wanted: Wanted, look: Look, search: Search, found: Found, bench: Bench, begun: float
+        self,
+        source: WholeScript,
+        wanted: Wanted,
+        look: Look,
+        search: Search,
+        found: Found,
+        bench: Bench,
+        begun: float,
     ) -> None:
-        self._wanted, self._look, self._search = wanted, look, search
+        self._source, self._wanted, self._look, self._search = source, wanted, look, search
         self._found, self._bench, self._begun = found, bench, begun
 
     def _has_time(self) -> bool:
@@ -128,11 +147,11 @@ class _Run:
         most = self._wanted.limits.seconds
         return most is None or int(time.monotonic() - self._begun) < 2 * most
 
-    def status(self, keeper: Optional[Keeper]) -> int:
+    def status(self, kept: Kept) -> int:
         """Prints, and returns the exit status."""
         if self._wanted.outcome is not None:
             return self._print_one(self._wanted.outcome)
-        return self._print_all(keeper)
+        return self._print_all(kept)
 
     def _print_one(self, outcome: Sequence[int]) -> int:
         """Prints the scenario of one outcome."""
@@ -159,7 +178,16 @@ class _Run:
         witness = bench.witness(steps, request, outcomes[number - 1])
         return None if witness is None else scenario_of(bench.job, witness)
 
-    def _print_all(self, keeper: Optional[Keeper]) -> int:
+    def _fix(self, file: FixFile) -> None:
+        """Writes the job with the changes of hints, and tells them."""
+        script, job = self._source.script, self._bench.job
+        text = script.script if script.job is None else script.job
+        found = fixed(self._search, job, text, self._found, self._has_time)
+        if found.text is not None:
+            file.write(found.text)
+        _print(found.told)
+
+    def _print_all(self, kept: Kept) -> int:
         wanted, found, bench = self._wanted, self._found, self._bench
         job, tally = bench.job, Tally(bench.job)
         seeds = wanted.seeds if found.is_complete else 0
@@ -168,10 +196,12 @@ class _Run:
         run = self._search.steps_of_run()
         whole = None if run is None else bench.whole(run)
         tally.add([] if whole is None else whole.posts)
-        asked = Asked(wanted.tells_all, keeper)
+        asked = Asked(wanted.tells_all, kept.keeper)
         teller = Teller(self._search, found, bench, tally, asked, self._has_time, _print)
         teller.tell_all()
         teller.tell_outputs()
+        if kept.fix is not None:
+            self._fix(kept.fix)
         verdict = verdict_of(found, teller.has_lost, teller.is_cut)
         _print(told_verdict(found, verdict, teller.is_cut, self._look, wanted.has_wholes))
         if missed is None:

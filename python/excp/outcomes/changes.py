@@ -2,10 +2,11 @@
 
 from __future__ import annotations
 
+import re
 from dataclasses import dataclass
 from typing import Dict, List, Optional, Sequence, Tuple
 
-from ..script.reading import Text, lines_of
+from ..script.reading import lines_of
 from .job import NumberedJob
 from .search import Found, Search
 
@@ -17,6 +18,9 @@ _TEXT_BYTES, _KEPT_BYTES = 8, 8192
 # What is done to a line, in the order in which it is done: a wait of a task comes before it, a task
 # does its command, it is left out.
 WAIT, BY, WITHOUT = "wait", "by", "without"
+
+# A command up to its task, and its task.
+_TASK = re.compile(r"( *[^ ]+ +)[^ ]+")
 
 
 @dataclass(frozen=True)
@@ -75,9 +79,8 @@ def is_no_worse(new: Measures, old: Measures, line: int) -> bool:
 class Trials:
     """Searches of changed scripts, for as long as they have states left."""
 
-    def __init__(self, search: Search, job: NumberedJob) -> None:
-        self._search, self._lines = search, lines_of(job.script)
-        self._left = _MOST_STATES
+    def __init__(self, search: Search, job: NumberedJob, states: int = _MOST_STATES) -> None:
+        self._search, self._lines, self._left = search, lines_of(job.script), states
         # whether no search has run out of memory
         self.has_memory = True
 
@@ -85,11 +88,16 @@ class Trials:
         """Whether another search may be made."""
         return self._left > 0
 
+    def of_job(self, job: NumberedJob) -> Trials:
+        """Searches of another job in place of these, with the states that are left."""
+        return Trials(self._search, job, self._left)
+
     def of_edits(self, edits: Sequence[Edit]) -> Optional[Measures]:
         """What the requests have with these edits, if the search comes to its end."""
         if not self.may_go_on():
             return None
-        text, origins = self._changed(edits)
+        lines, origins = edited(self._lines, edits)
+        text = text_of(lines)
         found = self._search.of_changed(text, self._left)
         if found is None:
             self.has_memory, self._left = False, 0
@@ -98,26 +106,27 @@ class Trials:
         self._left = max(0, self._left - cost)
         return measures(NumberedJob(text), found, origins) if found.is_complete else None
 
-    def _changed(self, edits: Sequence[Edit]) -> Tuple[bytes, Sequence[int]]:
-        """The script with edits, and for each of its lines the number that it had, or 0."""
-        lines: List[str] = []
-        origins: List[int] = []
-        by_line: Dict[int, List[Edit]] = {}
-        for edit in edits:
-            by_line.setdefault(edit.line, []).append(edit)
-        for number, line in enumerate(self._lines, 1):
-            of_line = by_line.get(number, [])
-            waits = [f"wait {it.task}" for it in of_line if it.change == WAIT]
-            for edit in of_line:
-                if edit.change == BY:
-                    line = _by_task(line, edit.task)
-            is_left_out = any(it.change == WITHOUT for it in of_line)
-            lines += [*waits, "" if is_left_out else line]
-            origins += [*(0 for _ in waits), number]
-        return "".join(f"{it}\n" for it in lines).encode("latin-1"), origins
+
+def edited(lines: Sequence[str], edits: Sequence[Edit]) -> Tuple[Sequence[str], Sequence[int]]:
+    """Lines with edits, and of each the number that it had before, or 0."""
+    new: List[str] = []
+    origins: List[int] = []
+    by_line: Dict[int, List[Edit]] = {}
+    for edit in edits:
+        by_line.setdefault(edit.line, []).append(edit)
+    for number, line in enumerate(lines, 1):
+        of_line = by_line.get(number, [])
+        end = "\r" if line.endswith("\r") else ""
+        waits = [f"wait {it.task}{end}" for it in of_line if it.change == WAIT]
+        for edit in of_line:
+            if edit.change == BY:
+                line = _TASK.sub(rf"\g<1>{edit.task}", line, count=1)
+        is_left_out = any(it.change == WITHOUT for it in of_line)
+        new += [*waits, "" if is_left_out else line]
+        origins += [*(0 for _ in waits), number]
+    return new, origins
 
 
-def _by_task(line: str, task: int) -> str:
-    """A line whose command another task does."""
-    verb, *rest = Text(line).words
-    return " ".join([verb, str(task), *rest[1:]])
+def text_of(lines: Sequence[str]) -> bytes:
+    """The text with these lines, as `lines_of` has them."""
+    return "\n".join(lines).encode("latin-1")

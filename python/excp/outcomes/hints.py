@@ -15,6 +15,7 @@ from .job import NumberedJob, Request
 # The most lines that are tried for one request, and that are named.
 _MOST_LINES = 12
 
+_CHANGES = "# its request has one outcome with these changes:\n"
 _NO_CHANGE = (
     "# no wait or other task was found that leaves one outcome and keeps each end with 7F\n"
 )
@@ -31,21 +32,27 @@ class _Line:
 def hint(trials: Trials, job: NumberedJob, base: Measures, request: Request) -> str:
     """The lines that race with a request, and the changes that make one outcome of it, if such are
     found. `base` says what the requests have without a change. It is empty if memory ran out."""
-    text = _hint(trials, job, base, request)
-    return text if trials.has_memory else ""
-
-
-def _hint(trials: Trials, job: NumberedJob, base: Measures, request: Request) -> str:
     issue = _Line(request.line, request.task)
     found = _racing_first(trials, issue, _others_at_its_unit(job, request))
     if found is None:
         return ""
     others, racing = found
     text = _told_races(issue.line, others, racing)
-    edits = _changes_for(trials, base, issue, others)
-    if edits is not None:
-        return text + "".join(_told_changes(job, edits))
+    changes = _changes_for(trials, base, issue, others)
+    if not trials.has_memory:
+        return ""
+    if changes is not None:
+        return "".join([text, _CHANGES, *told_changes(job, changes.edits)])
     return text + (_NO_CHANGE if trials.may_go_on() else "")
+
+
+def changes_for(
+    trials: Trials, job: NumberedJob, base: Measures, request: Request
+) -> Optional[Changes]:
+    """The changes that make one outcome of a request, as a hint has them."""
+    issue = _Line(request.line, request.task)
+    found = _racing_first(trials, issue, _others_at_its_unit(job, request))
+    return None if found is None else _changes_for(trials, base, issue, found[0])
 
 
 def _others_at_its_unit(job: NumberedJob, request: Request) -> List[_Line]:
@@ -78,29 +85,29 @@ def _racing_first(
 
 def _changes_for(
     trials: Trials, base: Measures, issue: _Line, others: Sequence[_Line]
-) -> Optional[Sequence[Edit]]:
+) -> Optional[Changes]:
     """The changes that make one outcome of a request, and fewer of all: for one other line after
     the other the first change that is no harm."""
-    changes = _Changes(issue, base)
+    changes = Changes(issue, base)
     for other in others[:_MOST_LINES]:
         changes.put_in_order(trials, other)
         if changes.is_enough(base):
-            return changes.edits
+            return changes
     return None
 
 
-class _Changes:
+class Changes:
     """Changes, and what the requests have with them."""
 
     def __init__(self, issue: _Line, base: Measures) -> None:
         # the request, with the task that issues it now
-        self._issue, self._measures = issue, base
+        self._issue, self.measures = issue, base
         self.edits: Sequence[Edit] = []
 
     def is_enough(self, base: Measures) -> bool:
         """Whether the request has one outcome, and all have fewer together than at first."""
-        is_one = outcomes_at(self._measures, self._issue.line) == 1
-        return is_one and total(self._measures) < total(base)
+        is_one = outcomes_at(self.measures, self._issue.line) == 1
+        return is_one and total(self.measures) < total(base)
 
     def put_in_order(self, trials: Trials, other: _Line) -> None:
         """Tries to put another line before or after the request, in one task: that of the request,
@@ -116,9 +123,9 @@ class _Changes:
         Returns whether it is none."""
         edits = self._with(other, change, task)
         new = trials.of_edits(edits)
-        if new is None or not is_no_worse(new, self._measures, self._issue.line):
+        if new is None or not is_no_worse(new, self.measures, self._issue.line):
             return False
-        self.edits, self._measures = edits, new
+        self.edits, self.measures = edits, new
         self._issue = _Line(self._issue.line, task)
         return True
 
@@ -145,8 +152,8 @@ def _told_races(line: int, others: Sequence[_Line], racing: int) -> str:
     return f"# line {line} races with {lines}{end}\n"
 
 
-def _told_changes(job: NumberedJob, edits: Sequence[Edit]) -> Iterator[str]:
-    yield "# its request has one outcome with these changes:\n"
+def told_changes(job: NumberedJob, edits: Sequence[Edit]) -> Iterator[str]:
+    """The changes of a job as comments."""
     for edit in edits:
         if edit.change == WAIT:
             yield f"#   before line {edit.line}: wait {edit.task}\n"
