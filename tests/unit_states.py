@@ -276,6 +276,10 @@ class UnitStates:
         with self._site:
             self._go_on(self._number_of(Reached()))
 
+    def medium(self, number):
+        """The medium in a state, as the lines of a record. By histories there is none."""
+        return self._reached[number].medium
+
     def event(self, number):
         """The event that does something in a state, and what it leads to, if one does."""
         return self._of_events[number]

@@ -1,16 +1,18 @@
 """Every order of all steps of small jobs comes to the outcomes that `excp outcomes` finds.
 
 The search of `outcomes` leaves orders out, because they are argued to lose nothing. tests/every_order.py goes through all of them
-over the library, and takes two states for one only if all that the readers of their units tell is equal. The sets of posts and of
-whole outputs are compared. By their histories, the smallest jobs come to the same too.
+over the library, and takes two states for one only if all that the readers of their units tell is equal. The sets of posts, of whole
+outputs and of media are compared. By their histories, the smallest jobs come to the same too.
 """
 
+import json
 import os
 import re
 
 from every_order import Orders
+from excp.images.ebcdic import seen
 from excp.programs.library_choice import PLACE
-from groups.outcomes import BY_HAND, SELDOM, TAPES, numbers_and_post, outcomes_of, told_by
+from groups.outcomes import BY_HAND, MEDIA, SELDOM, TAPES, media_by, numbers_and_post, outcomes_of, told_by
 from harness import LIBRARY, TOP, Case, Skipped, read, require
 from small_jobs import small_job
 
@@ -46,7 +48,8 @@ COMMANDS = "excp", "purge", "purgetask", "close", "reset", "wait"
 
 
 def every_order(script, turn, most=MOST_STATES, by_history=False):
-    """The posts of each request by its numbers, and the whole outputs. There is nothing if a job has more states."""
+    """The posts of each request by its numbers, the whole outputs, and the media of each unit, as the lines of records. There is nothing
+    if a job has more states."""
     if not os.path.exists(LIBRARY):
         raise Skipped("no library in out/library: tools/library.py builds one")
     os.environ[PLACE] = LIBRARY
@@ -57,7 +60,48 @@ def every_order(script, turn, most=MOST_STATES, by_history=False):
     told = {}
     for name, post in (numbers_and_post(line) for output in orders.outputs() for line in output):
         told.setdefault(name, set()).add(post)
-    return told, orders.outputs()
+    return told, orders.outputs(), orders.media
+
+
+def parts_of(unit, medium):
+    """What a medium has at each place, as it is told; and what is told of a place where it has nothing."""
+    size, *rest = [json.loads(it) for it in f'{{"what":"medium"{medium.decode()}'.splitlines()]
+    if "cylinders" in size:
+        return {(it["cylinder"], it["head"], it["nth"]): (record_told(unit, it),) for it in rest}, "# no record {2} on track {0} {1}"
+    if "count" in size:
+        parts = {(number,): (f"# item {number}", item_told(unit, it["block"])) for number, it in enumerate(rest, 1)}
+        return {**parts, LAST: (f"# the tape stands behind {size['place']} of {size['count']} items",)}, "# no item {0}"
+    parts = {(number,): (f"# page {it['page']:5} line {it['line']:2} |{seen(bytes.fromhex(it['bytes']))}",)
+             for number, it in enumerate(rest, 1)}
+    return {**parts, LAST: (f"# the paper stands at page {size['page']}, line {size['line']}",)}, "# no printed line {0}"
+
+
+# The place after all items or lines.
+LAST = (1 << 30,)
+
+
+def record_told(unit, record):
+    track, number = f"{record['cylinder']} {record['head']}", int(record["id"][8:], 16)
+    key, data = record["key"] or "-", record["data"] or "-"
+    if record["nth"] and number and record["id"][:8] == f"{record['cylinder']:04X}{record['head']:04X}":
+        return f"rec {unit} {track} {number} {key} {data}"
+    return f"# no line declares, on track {track}: CCHHR {record['id']}, key {key}, data {data}"
+
+
+def item_told(unit, block):
+    return f"mark {unit}" if block is None else f"block {unit} {block or '-'}"
+
+
+def media_told(media):
+    """What is told of the media of each unit, if it has several: all that differs."""
+    told = {}
+    for unit, of_unit in enumerate(media):
+        parts, nothing = zip(*(parts_of(unit, it) for it in of_unit))
+        places = sorted({place for it in parts for place in it})
+        differ = [place for place in places if len({it.get(place) for it in parts}) > 1]
+        if differ:
+            told[unit] = {sum((it.get(place) or (nothing[0].format(*place),) for place in differ), ()) for it in parts}
+    return told
 
 
 def outcomes(setup, script, *words):
@@ -86,6 +130,8 @@ def is_equal(setup, script, turn=USUAL_TURN):
     words = "--turn", str(turn)
     told, outputs = outcomes(setup, script, *words)
     alone = {name: set(posts) for name, posts in outcomes_of(setup, script, *words)[0].items()}
+    media = media_by(setup, script, "--all", "--seeds", "0", *words)[0]
+    require(media == media_told(found[2]), f"the media are {media}, and those of every order {media_told(found[2])}; of\n{script}")
     some = {name: grouped(posts) for name, posts in told.items()}
     require(some == alone, f"the outcomes with whole outputs are {some}, and without them {alone}; of\n{script}")
     require(told == found[0], f"the outcomes are {told}, and those of every order {found[0]}; of\n{script}")
@@ -137,7 +183,7 @@ def is_same_by_history(first):
         for turn in TURNS:
             by_history = every_order(script, turn, MOST_HISTORIES, by_history=True)
             if by_history:
-                require(every_order(script, turn) == by_history, f"by their histories, units come to other posts; of\n{script}")
+                require(every_order(script, turn)[:2] == by_history[:2], f"by their histories, units come to other posts; of\n{script}")
 
 
 def is_cut():
@@ -154,6 +200,8 @@ def is_complete(setup, script, words=()):
 def cases(setup):
     for name, (script, words, _) in BY_HAND.items():
         yield Case(f"by hand, {name}", lambda s=script, w=words: is_complete(setup, s, w), ORIGIN)
+    for name, (script, _) in MEDIA.items():
+        yield Case(f"media, {name}", lambda s=script: is_complete(setup, s), ORIGIN)
     for name, (words, _, _) in SELDOM.items():
         file = f"tests/cases/outcomes/{name}.script"
         yield Case(file, lambda f=file, w=words: is_complete(setup, read(f"{TOP}/{f}"), w), ORIGIN)

@@ -212,8 +212,28 @@ def told_by(setup, script, *words):
             else:
                 told.setdefault(name, []).append(post)
         else:
-            require(line.startswith("# "), f"a line {line!r}", ran)
+            require(line.startswith("# ") or line.split()[0] in OF_MEDIA, f"a line {line!r}", ran)
     return told, outputs, lines[-1]
+
+
+# The first words of the lines that tell media.
+OF_MEDIA = "medium", "rec", "block", "mark"
+
+
+def media_by(setup, script, *words):
+    """What the program tells of the media of each unit that has several, each as its lines without steps; and the last line."""
+    ran = setup.run("outcomes", "--media", *words, script=script)
+    media, lines = {}, ran.out.splitlines()
+    require((ran.status, ran.err) == (status_of(lines[-1]), ""), "it fails", ran)
+    for place, line in enumerate(lines):
+        if it := re.fullmatch(r"medium (\d+) (\d+)", line):
+            of_unit = media.setdefault(int(it[1]), [])
+            rest = lines[place + 1:]
+            count = next(it for it, after in enumerate(rest) if after.startswith("#   "))
+            of_unit.append(tuple(rest[:count]))
+            require(int(it[2]) == len(of_unit), f"another number: {line!r}", ran)
+    require(all(len(set(it)) == len(it) > 1 for it in media.values()), "a medium is told twice", ran)
+    return {unit: set(it) for unit, it in media.items()}, lines[-1]
 
 
 def outcomes_of(setup, script, *words):
@@ -234,6 +254,50 @@ def is_by_hand(setup, script, words, wanted):
 def has_outcome(setup, name, words, request, post):
     told, _ = outcomes_of(setup, read(f"{TOP}/tests/cases/outcomes/{name}.script"), *words)
     require(post in told.get(request, []), f"the outcomes of {request} are {told.get(request)}")
+
+
+# Two writers of one record, or of a block each to a tape; a request to a printer, and a quiesce.
+def writer(number, data):
+    """An area whose program writes this data to R1."""
+    return (f"area {number} 001000 4200000000001028 0000000000000000 0000103000000001 0000000000000000 0000000000000001 "
+            f"0000000000000000 3100105040000005 0800103000000000 0500105800000002 0000000000000000 0000000001000000 {data}\n")
+
+
+def to_tape(number, data):
+    """An area whose program writes this block."""
+    return WRITE.replace("area 0", f"area {number}").replace("A1A1", data)
+
+
+PRINT = WRITE.replace("01001038", "09001038").replace("A1A1", "C1C2")
+WRITERS = "tasks 2\ndisk 0 0 1 1 40\nrec 0 0 0 1 - C1C2\n" + OPEN
+TAPED = "tasks 2\ntape 0 0 60\nopen 0 out\n"
+PRINTED = "tasks 1\nprinter 0 0 10 2\nopen 0 out\n" + PRINT + EXCP.format(0, 0) + "purge 0 0 1 quiesce\n"
+
+# Jobs, and the media of their unit, worked by hand: what differs, by records, items or lines. If a unit has one medium, there is
+# nothing.
+MEDIA = {
+    "two writers": (WRITERS + writer(0, "A000") + writer(1, "A001") + EXCP.format(0, 0) + EXCP.format(1, 1),
+                    {("rec 0 0 0 1 - A000",), ("rec 0 0 0 1 - A001",)}),
+    "two writers of the same": (WRITERS + writer(0, "A000") + EXCP.format(0, 0) + EXCP.format(1, 0), None),
+    "two blocks": (TAPED + to_tape(0, "B0B0") + to_tape(1, "B1B1") + EXCP.format(0, 0) + EXCP.format(1, 1),
+                   {("# item 1", "block 0 B0B0", "# item 2", "block 0 B1B1"), ("# item 1", "block 0 B1B1", "# item 2", "block 0 B0B0")}),
+    "a block or none": (TAPED + to_tape(0, "B0B0") + EXCP.format(0, 0) + "purge 0 0 1 quiesce\n",
+                        {("# item 1", "block 0 B0B0", "# the tape stands behind 1 of 1 items"),
+                         ("# no item 1", "# the tape stands behind 0 of 0 items")}),
+    "a line or none": (PRINTED, {("# page     1 line  1 |AB", "# the paper stands at page 1, line 2"),
+                                 ("# no printed line 1", "# the paper stands at page 1, line 1")}),
+}
+
+
+def has_media(setup, script, wanted):
+    """The unit has these media, which the last line counts. So it does if whole outputs are sought too, each of which has one."""
+    media, last = media_by(setup, script)
+    require(media == ({} if wanted is None else {0: wanted}), f"the media are {media}")
+    require(("1 unit has more than one medium" in last) == (wanted is not None), f"the last line is {last!r}")
+    whole = setup.run("outcomes", "--media", "--whole", script=script)
+    require(media_by(setup, script, "--whole")[0] == media, "with whole outputs there are other media", whole)
+    numbers = re.findall(r"^# medium (\d+) of unit 0$", whole.out, re.M)
+    require({int(it) for it in numbers} == set(range(1, 1 + len(wanted or ()))), "the outputs have other media", whole)
 
 
 def has_outputs(setup, script, wanted):
@@ -709,6 +773,8 @@ def cases(setup):
         yield Case(f"tests/cases/outcomes/{name}.script", lambda n=name, s=seldom: has_outcome(setup, n, *s), ORIGIN)
     for name, (script, wanted) in OUTPUTS.items():
         yield Case(f"whole outputs, {name}", lambda s=script, w=wanted: has_outputs(setup, s, w), ORIGIN)
+    for name, (script, wanted) in MEDIA.items():
+        yield Case(f"media, {name}", lambda s=script, w=wanted: has_media(setup, s, w), ORIGIN)
     yield Case("whole outputs, two tasks before one purge", lambda: has_output(setup, THREE, ALL_PURGED), ORIGIN)
     yield Case("a search that is cut", lambda: is_cut(setup), ORIGIN)
     yield Case("between all commands", lambda: looks_closely(setup), ORIGIN)

@@ -25,8 +25,8 @@ _NUMBERS = {
 _SEEDS = 20
 
 _EXCLUSIONS = {
-    "often": ("most-seconds", "whole", "all", "outcome", "scenarios", "allow", "fix"),
-    "outcome": ("whole", "all", "scenarios", "allow", "fix"),
+    "often": ("most-seconds", "whole", "media", "all", "outcome", "scenarios", "allow", "fix"),
+    "outcome": ("whole", "media", "all", "scenarios", "allow", "fix"),
 }
 
 
@@ -34,6 +34,7 @@ def add_arguments(parser: argparse.ArgumentParser) -> None:
     for name, (least, most) in _NUMBERS.items():
         parser.add_argument(f"--{name}", type=number(least, most), metavar="N")
     parser.add_argument("--whole", action="store_true", help="the whole outputs too")
+    parser.add_argument("--media", action="store_true", help="the media at the end too")
     parser.add_argument("--all", action="store_true", help="every outcome with its steps")
     place = ("T", "U", "N", "K")
     parser.add_argument("--outcome", nargs=len(place), metavar=place, type=number(0, _MOST))
@@ -51,7 +52,7 @@ def run(given: argparse.Namespace) -> int:
     from .told_outcomes import Wanted, carry_out
 
     check_exclusions(given, _EXCLUSIONS)
-    order = Order.of(given, "outcomes", words_of(whole=given.whole))
+    order = Order.of(given, "outcomes", words_of(whole=given.whole, media=given.media))
     job = read_job(given.script, order.loads)
     use_library(given.program_of)
     wanted = Wanted(
@@ -59,6 +60,7 @@ def run(given: argparse.Namespace) -> int:
         seeds=_SEEDS if given.seeds is None else given.seeds,
         often=given.often,
         has_wholes=given.whole,
+        has_media=given.media,
         tells_all=given.all,
         outcome=given.outcome,
         allow=given.allow,

@@ -19,9 +19,10 @@ from ..outcomes.looks import Limits, Look, first_look, look_in_place
 from ..outcomes.running import running
 from ..outcomes.scenarios import scenario_of
 from ..outcomes.search import Found, Search, SearchEnded
-from ..outcomes.summary import Verdict, told_verdict, verdict_of
+from ..outcomes.summary import Told, Verdict, told_verdict, verdict_of
 from ..outcomes.tally import Tally, shares
 from ..outcomes.telling import Asked, Keeper, Teller
+from ..outcomes.told_media import MediaTeller
 from ..programs.telling import note
 from ..stepping.schedule import TURN
 from .fix_file import FixFile, fix_file
@@ -43,6 +44,7 @@ class Wanted:
     seeds: int
     often: Optional[int]
     has_wholes: bool
+    has_media: bool
     tells_all: bool
     outcome: Optional[Sequence[int]]
     allow: Optional[Sequence[str]]
@@ -199,13 +201,22 @@ class _Run:
         asked = Asked(wanted.tells_all, kept.keeper)
         teller = Teller(self._search, found, bench, tally, asked, self._has_time, _print)
         teller.tell_all()
-        teller.tell_outputs()
+        media = MediaTeller(
+            self._search, found, bench, wanted.tells_all, self._has_time, _print
+        )
+        media.tell_all()
+        teller.tell_outputs(media.told_of_output)
         if kept.fix is not None:
             self._fix(kept.fix)
-        verdict = verdict_of(found, teller.has_lost, teller.is_cut)
-        _print(told_verdict(found, verdict, teller.is_cut, self._look, wanted.has_wholes))
+        told = Told(
+            has_lost=teller.has_lost or media.has_lost,
+            is_cut=teller.is_cut or media.is_cut,
+            units=media.units if wanted.has_media else None,
+        )
+        verdict = verdict_of(found, told)
+        _print(told_verdict(found, verdict, told, self._look, wanted.has_wholes))
         if missed is None:
-            return verdict if wanted.allow is None else _judged(found, job, verdict, wanted.allow)
+            return verdict if wanted.allow is None else _judged(found, told, job, wanted.allow)
         seed, request = missed
         which = f"request {request.number} of task {request.task} to unit {request.unit}"
         again = f"the run by seed {seed} posts another outcome of {which}"
@@ -213,16 +224,18 @@ class _Run:
         return FAILED
 
 
-def _judged(found: Found, job: NumberedJob, verdict: int, allow: Sequence[str]) -> int:
+def _judged(found: Found, told: Told, job: NumberedJob, allow: Sequence[str]) -> int:
     """The exit status if outcomes with these codes are no error: the first one with another code is
-    named. If not all were found, more may come."""
+    named. If not all were found, more may come. Units may not have several media."""
     for request in job.in_order:
         for number, outcome in enumerate(found.outcomes[request.place], 1):
             if outcome.code not in allow:
                 which = f"outcome {number} of request {request.number} of task {request.task}"
                 note(f"{which} to unit {request.unit} has code {outcome.code}: line {request.line}")
                 return Verdict.SEVERAL
-    return verdict if verdict == Verdict.NOT_ALL else Verdict.DETERMINISTIC
+    if verdict_of(found, told) == Verdict.NOT_ALL:
+        return Verdict.NOT_ALL
+    return Verdict.SEVERAL if told.units else Verdict.DETERMINISTIC
 
 
 def _print(text: str) -> None:

@@ -16,6 +16,7 @@ from ..stepping.mounted import mounted_site
 from ..stepping.past import Past
 from ..stepping.schedule import WAIT
 from .job import NumberedJob, Request
+from .media import Medium, medium_of
 from .search import Outcome
 
 # How many steps are left out at a time, in turn; and how much work it takes at most to make a
@@ -94,6 +95,13 @@ class Bench:
             return run.witness() if is_over else None
 
 
+    def medium(self, steps: Sequence[str], unit: int) -> Optional[Tuple[Witness, Medium]]:
+        """As `whole`, with the medium that a unit has then."""
+        with _Rerun(self, None) as run:
+            is_over = run.all(steps) and run.is_over()
+            return (run.witness(), medium_of(run.record(unit))) if is_over else None
+
+
 class _Reached(Exception):
     """The post of the target was collected."""
 
@@ -139,6 +147,10 @@ class _Rerun:
     def work(self) -> int:
         """How many steps were made, and how many commands ran."""
         return self._commands + len(self.steps)
+
+    def record(self, unit: int) -> str:
+        """What happened at a unit, and its medium."""
+        return self._stage.site.units[unit].record()
 
     def _make(self, step: str) -> bool:
         """Makes a step. A wait is made once its task has collected its posts."""

@@ -30,16 +30,26 @@ class Outcome:
 
 
 @dataclass(frozen=True)
+class Whole:
+    """A whole output: a text for each request, and of each unit the place of its medium, if media
+    are sought."""
+
+    texts: Sequence[str]
+    media: Sequence[int]
+
+
+@dataclass(frozen=True)
 class Found:
     """What a search found: why it ended, how many states, about how many bytes they take, the
-    outcomes of each request in the order of their texts, and the whole outputs, each with a text
-    for each request."""
+    outcomes of each request in the order of their texts, how many media each unit has, if they are
+    sought, and the whole outputs."""
 
     ended: str
     states: int
     bytes: int
     outcomes: Sequence[Sequence[Outcome]]
-    wholes: Sequence[Sequence[str]]
+    media: Sequence[int]
+    wholes: Sequence[Whole]
 
     @property
     def is_complete(self) -> bool:
@@ -95,6 +105,10 @@ class Search:
         """The steps that lead to a whole output."""
         return self._steps(f"whole {place}")
 
+    def steps_to_medium(self, unit: int, place: int) -> Optional[Sequence[str]]:
+        """The steps of a whole run after which a unit has one of its media."""
+        return self._steps(f"media {unit} {place}")
+
     def steps_of_run(self) -> Optional[Sequence[str]]:
         """The steps of a whole run, if one was found."""
         return self._steps("run")
@@ -138,7 +152,8 @@ def _found(lines: Iterator[Mapping[str, Any]]) -> Found:
     head = next(lines)
     texts: dict[int, str] = {}
     outcomes: List[Sequence[Outcome]] = []
-    wholes: List[Sequence[str]] = []
+    media: List[Sequence[int]] = []
+    wholes: List[Whole] = []
     for line in lines:
         if "outcomes" in line:
             for number, key, _ in line["outcomes"]:
@@ -149,8 +164,12 @@ def _found(lines: Iterator[Mapping[str, Any]]) -> Found:
             ]
             outcomes.append(sorted(of_request, key=lambda it: it.text))
         elif "whole" in line:
-            wholes.append([texts[number] for number in line["whole"]])
-    return Found(head["ended"], head["states"], head["bytes"], outcomes, wholes)
+            places = [it.index(number) for it, number in zip(media, line.get("media", ()))]
+            wholes.append(Whole([texts[number] for number in line["whole"]], places))
+        elif "media" in line:
+            media.append([number for number, _ in line["media"]])
+    count_of_media = [len(it) for it in media]
+    return Found(head["ended"], head["states"], head["bytes"], outcomes, count_of_media, wholes)
 
 
 def _text(key: str) -> str:

@@ -2,8 +2,9 @@
 
 from __future__ import annotations
 
+from dataclasses import dataclass
 from enum import IntEnum
-from typing import Iterator
+from typing import Iterator, Optional
 
 from ..script.reading import count_of
 from .looks import Look
@@ -29,39 +30,56 @@ class Verdict(IntEnum):
     NOT_ALL = 6
 
 
-def verdict_of(found: Found, has_lost: bool, is_cut: bool) -> Verdict:
-    """What is found comes to, if the search is wrong about some outcome, or for some there was no
-    time."""
+@dataclass(frozen=True)
+class Told:
+    """What was told of what a search found: whether it is wrong about some of it, whether there was
+    no time for some, and how many units have several media, if media are sought."""
+
+    has_lost: bool
+    is_cut: bool
+    units: Optional[int]
+
+
+def verdict_of(found: Found, told: Told) -> Verdict:
+    """What is found comes to."""
     # a search that misses a request is wrong
-    is_all = found.is_complete and not has_lost and not is_cut and all(found.outcomes)
+    is_all = found.is_complete and not told.has_lost and not told.is_cut and all(found.outcomes)
     if not is_all:
         return Verdict.NOT_ALL
-    return Verdict.SEVERAL if _several(found) else Verdict.DETERMINISTIC
+    return Verdict.SEVERAL if _several(found) or told.units else Verdict.DETERMINISTIC
 
 
-def told_verdict(
-    found: Found, verdict: Verdict, is_cut: bool, look: Look, has_wholes: bool
-) -> str:
+def told_verdict(found: Found, verdict: Verdict, told: Told, look: Look, has_wholes: bool) -> str:
     """The last line."""
-    ended = WATCH if is_cut and found.is_complete else found.ended
+    ended = WATCH if told.is_cut and found.is_complete else found.ended
     counts = [count_of(found.states, "state")]
     if has_wholes:
         counts.append(count_of(len(found.wholes), "whole output"))
     limits = ", ".join([f"turns of {count_of(look.turn, 'command')}", *counts])
     more = _COARSE if look.is_coarse and verdict != Verdict.NOT_ALL else ""
-    return f"{''.join(_said(found, verdict))} ({limits}{_ENDS[ended]}){more}\n"
+    return f"{_said(found, verdict, told)} ({limits}{_ENDS[ended]}){more}\n"
 
 
-def _said(found: Found, verdict: Verdict) -> Iterator[str]:
-    several = _several(found)
+def _said(found: Found, verdict: Verdict, told: Told) -> str:
     if verdict == Verdict.DETERMINISTIC:
-        yield "deterministic"
-    elif verdict == Verdict.NOT_ALL and not several:
-        yield "not all: no request has more than one outcome so far"
-    else:
-        yield "" if verdict == Verdict.SEVERAL else "not all: at least "
-        requests = "request has" if several == 1 else "requests have"
-        yield f"{several} {requests} more than one outcome"
+        return "deterministic"
+    several = " and ".join(_severals(found, told))
+    if verdict == Verdict.SEVERAL:
+        return several
+    if several:
+        return f"not all: at least {several}"
+    units = "" if told.units is None else ", and no unit more than one medium,"
+    return f"not all: no request has more than one outcome{units} so far"
+
+
+def _severals(found: Found, told: Told) -> Iterator[str]:
+    """How many requests have more than one outcome, and how many units more than one medium."""
+    requests, units = _several(found), told.units
+    if requests:
+        which = "request has" if requests == 1 else "requests have"
+        yield f"{requests} {which} more than one outcome"
+    if units:
+        yield f"{units} {'unit has' if units == 1 else 'units have'} more than one medium"
 
 
 def _several(found: Found) -> int:

@@ -189,30 +189,31 @@ class Teller:
         if more:
             self._write(f"# and {more} more {what}{'' if more == 1 else 's'}{rest}\n")
 
-    def tell_outputs(self) -> None:
-        """Tells the whole outputs in the order of their posts: all, or the first ones."""
+    def tell_outputs(self, told_media: Callable[[Sequence[int]], str]) -> None:
+        """Tells the whole outputs in the order of their posts: all, or the first ones. `told_media`
+        gives the media of one."""
         order = [it.place for it in self._job.in_order]
         wholes = self._found.wholes
-        places = sorted(range(len(wholes)), key=lambda it: [wholes[it][at] for at in order])
+        places = sorted(range(len(wholes)), key=lambda it: [wholes[it].texts[at] for at in order])
         most = len(places) if self._asked.tells_all else _MOST
         for before, place in enumerate(places[:most]):
             if not self._has_time():
                 self.is_cut = True
                 return self._tell_more(len(places) - before, "whole output", _NO_TIME)
-            self._tell_output(place, before + 1)
+            self._tell_output(place, before + 1, told_media(wholes[place].media))
         self._tell_more(max(0, len(places) - most), "whole output", "")
 
-    def _tell_output(self, place: int, number: int) -> None:
+    def _tell_output(self, place: int, number: int, media: str) -> None:
         """Tells a whole output. If the run to it has other posts, the search is wrong about it."""
         steps = self._search.steps_to_whole(place)
         run = None if steps is None else self._bench.whole(steps)
-        posts = None if run is None else self._posts_of(run, self._found.wholes[place])
+        posts = None if run is None else self._posts_of(run, self._found.wholes[place].texts)
         if run is None or posts is None:
             self.has_lost = True
             return
         has_steps = len(self._found.wholes) > 1
         steps_told = steps_as_comments(self._job, run.steps, None) if has_steps else ""
-        self._write(f"output {number}\n{''.join(posts)}{steps_told}")
+        self._write(f"output {number}\n{''.join(posts)}{media}{steps_told}")
         if self._asked.keeper is not None:
             scenario = scenario_of_all(self._job, run)
             self._asked.keeper.keep(f"output-{number}.scenario", scenario)

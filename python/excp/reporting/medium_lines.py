@@ -35,16 +35,20 @@ def _disk_lines(record: Record, unit: Members, look: Look) -> Iterator[str]:
     yield f"disk {number} {unit['isc']} {tracks}\n"
     for line in record.all_of("record"):
         it = members(line)
-        track = f"{it['cylinder']} {it['head']}"
-        key, data = shown(it["key"]), shown(it["data"])
-        name = _declared_number(it)
-        if name is None:
-            area = f"CCHHR {it['id']}, key {key}, data {data}"
-            yield f"# no line declares, on track {track}: {area}\n"
-        else:
-            yield f"rec {number} {track} {name} {key} {data}\n"
+        yield record_line(number, it)
         yield from _text_rows("key", it["key"], look)
         yield from _text_rows("data", it["data"], look)
+
+
+def record_line(unit: int, record: Members) -> str:
+    """The line of a record of a disk."""
+    track = f"{record['cylinder']} {record['head']}"
+    key, data = shown(record["key"]), shown(record["data"])
+    name = _declared_number(record)
+    if name is None:
+        area = f"CCHHR {record['id']}, key {key}, data {data}"
+        return f"# no line declares, on track {track}: {area}\n"
+    return f"rec {unit} {track} {name} {key} {data}\n"
 
 
 def _declared_number(record: Members) -> Optional[int]:
@@ -64,21 +68,35 @@ def _tape_lines(record: Record, unit: Members, look: Look) -> Iterator[str]:
         if count == place:
             yield stands
         block = members(line)["block"]
-        yield f"mark {number}\n" if block is None else f"block {number} {shown(block)}\n"
+        yield item_line(number, block)
         yield from _text_rows("data", block or "", look)
         count += 1
     if count == place:
         yield stands
 
 
+def item_line(unit: int, block: Optional[str]) -> str:
+    """The line of an item of a tape, a block or a mark."""
+    return f"mark {unit}\n" if block is None else f"block {unit} {shown(block)}\n"
+
+
 def _printer_lines(record: Record, unit: Members, look: Look) -> Iterator[str]:
     size = members(record.take())
     yield f"printer {unit['unit']} {unit['isc']} {size['lines']} {size['pages']}\n"
     for line in record.all_of("line"):
-        it = members(line)
-        text = look.text(bytes.fromhex(it["bytes"]))
-        yield f"# page {it['page']:5} line {it['line']:2} |{text}\n"
-    yield f"# the paper stands at page {size['page']}, line {size['line']}\n"
+        yield line_of_paper(members(line), look)
+    yield paper_stands(size)
+
+
+def line_of_paper(line: Members, look: Look) -> str:
+    """A line that a printer printed."""
+    text = look.text(bytes.fromhex(line["bytes"]))
+    return f"# page {line['page']:5} line {line['line']:2} |{text}\n"
+
+
+def paper_stands(size: Members) -> str:
+    """Where the paper of a printer stands."""
+    return f"# the paper stands at page {size['page']}, line {size['line']}\n"
 
 
 _LINES: Mapping[str, Callable[[Record, Members, Look], Iterator[str]]] = {
