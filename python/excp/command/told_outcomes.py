@@ -14,7 +14,7 @@ from ..files.folder import ScenarioFolder
 from ..files.refusals import Unwritten
 from ..outcomes.bench import Bench
 from ..outcomes.fixing import fixed
-from ..outcomes.job import NumberedJob
+from ..outcomes.job import NumberedJob, Request
 from ..outcomes.looks import Limits, Look, first_look, look_in_place
 from ..outcomes.running import running
 from ..outcomes.scenarios import scenario_of
@@ -190,38 +190,52 @@ class _Run:
         _print(found.told)
 
     def _print_all(self, kept: Kept) -> int:
-        wanted, found, bench = self._wanted, self._found, self._bench
-        job, tally = bench.job, Tally(bench.job)
-        seeds = wanted.seeds if found.is_complete else 0
-        tally.run_seeds(bench, seeds, wanted.turn_of_seeds, self._has_time)
+        """Prints all that was found, and returns the exit status."""
+        found, wanted, tally = self._found, self._wanted, self._tally_of_seeds()
         missed = tally.missed(found)
-        run = self._search.steps_of_run()
+        told = self._tell(tally, kept)
+        verdict = verdict_of(found, told)
+        _print(told_verdict(found, verdict, told, self._look, wanted.has_wholes))
+        if missed is not None:
+            _note_missed(*missed)
+            return FAILED
+        if wanted.allow is None:
+            return verdict
+        return _judged(found, told, self._bench.job, wanted.allow)
+
+    def _tally_of_seeds(self) -> Tally:
+        """What runs by seeds come to, if all was found."""
+        wanted, bench, tally = self._wanted, self._bench, Tally(self._bench.job)
+        seeds = wanted.seeds if self._found.is_complete else 0
+        tally.run_seeds(bench, seeds, wanted.turn_of_seeds, self._has_time)
+        return tally
+
+    def _tell(self, tally: Tally, kept: Kept) -> Told:
+        """Prints what was found, but the last line."""
+        search, found, bench, wanted = self._search, self._found, self._bench, self._wanted
+        run = search.steps_of_run()
         whole = None if run is None else bench.whole(run)
         tally.add([] if whole is None else whole.posts)
         asked = Asked(wanted.tells_all, kept.keeper)
-        teller = Teller(self._search, found, bench, tally, asked, self._has_time, _print)
+        teller = Teller(search, found, bench, tally, asked, self._has_time, _print)
+        media = MediaTeller(search, found, bench, wanted.tells_all, self._has_time, _print)
         teller.tell_all()
-        media = MediaTeller(
-            self._search, found, bench, wanted.tells_all, self._has_time, _print
-        )
         media.tell_all()
         teller.tell_outputs(media.told_of_output)
         if kept.fix is not None:
             self._fix(kept.fix)
-        told = Told(
+        return Told(
             has_lost=teller.has_lost or media.has_lost,
             is_cut=teller.is_cut or media.is_cut,
             units=media.units if wanted.has_media else None,
         )
-        verdict = verdict_of(found, told)
-        _print(told_verdict(found, verdict, told, self._look, wanted.has_wholes))
-        if missed is None:
-            return verdict if wanted.allow is None else _judged(found, told, job, wanted.allow)
-        seed, request = missed
-        which = f"request {request.number} of task {request.task} to unit {request.unit}"
-        again = f"the run by seed {seed} posts another outcome of {which}"
-        note(f"error of this program: {again}; please report it with the script")
-        return FAILED
+
+
+def _note_missed(seed: int, request: Request) -> None:
+    """Says that a run by a seed came to an outcome that the search did not find."""
+    which = f"request {request.number} of task {request.task} to unit {request.unit}"
+    again = f"the run by seed {seed} posts another outcome of {which}"
+    note(f"error of this program: {again}; please report it with the script")
 
 
 def _judged(found: Found, told: Told, job: NumberedJob, allow: Sequence[str]) -> int:
