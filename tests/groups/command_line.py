@@ -84,7 +84,7 @@ EXCLUSIVE = {
     ],
     "step": [("json", "trace"), ("json", "state"), ("html", "json"), ("html", "trace"), ("html", "state")],
     "outcomes": [
-        *(("often", other) for other in ("most-seconds", "whole", "media", "all", "outcome", "scenarios", "allow", "fix")),
+        *(("often", other) for other in ("most-seconds", "no-reductions", "whole", "media", "all", "outcome", "scenarios", "allow", "fix")),
         *(("outcome", other) for other in ("whole", "media", "all", "scenarios", "allow", "fix")),
     ],
 }

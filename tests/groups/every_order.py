@@ -2,7 +2,8 @@
 
 The search of `outcomes` leaves orders out, because they are argued to lose nothing. tests/every_order.py goes through all of them
 over the library, and takes two states for one only if all that the readers of their units tell is equal. The sets of posts, of whole
-outputs and of media are compared. By their histories, the smallest jobs come to the same too.
+outputs and of media are compared. By their histories, the smallest jobs come to the same too, and so they do if
+`outcomes` leaves no order out.
 """
 
 import json
@@ -40,6 +41,11 @@ WAITS = 12
 HISTORIES = 40
 HISTORIES_LONG = 200
 MOST_HISTORIES = 10_000
+
+# How many smallest jobs are searched without reductions, also in the long form, and the most states of one.
+UNREDUCED = 20
+UNREDUCED_LONG = 200
+MOST_UNREDUCED = 10_000
 
 # From so many outcomes of a request on, `outcomes` prints the first of each code without `--all`.
 GROUPED = 8
@@ -186,6 +192,30 @@ def is_same_by_history(first):
                 require(every_order(script, turn)[:2] == by_history[:2], f"by their histories, units come to other posts; of\n{script}")
 
 
+def is_same_without_reductions(setup, first):
+    """Small jobs from this one on have the same outcomes, whole outputs and media if no order is left out."""
+    done = 0
+    for number in range(first, first + BATCH):
+        script = small_job(f"reductions {number}", tasks=2, units=2, requests=3, controls=2, waits=1)
+        words = "--all", "--seeds", "0"
+        every = *words, "--no-reductions", "--most-states", str(MOST_UNREDUCED), "--turn", "1"
+        told, outputs, last = told_by(setup, script, "--whole", *every)
+        if last.startswith("not all"):
+            continue
+        require("(turns of 1 command, no reductions, " in last, f"the last line is {last!r}")
+        usual = told_by(setup, script, "--whole", *words)[:2]
+        require(sets_of(told, outputs) == sets_of(*usual), f"without reductions there are other outcomes; of\n{script}")
+        media = media_by(setup, script, *every)[0]
+        require(media == media_by(setup, script, *words)[0], f"without reductions there are other media; of\n{script}")
+        done += 1
+    require(done * 2 >= BATCH, f"only {done} searches without reductions come to their ends")
+
+
+def sets_of(told, outputs):
+    """Outcomes by their requests, and whole outputs, in no order."""
+    return {name: set(posts) for name, posts in told.items()}, {tuple(sorted(it.items())) for it in outputs}
+
+
 def is_cut():
     """A search that ends early says so."""
     require(every_order(TAPES, USUAL_TURN, most=20) is None, "a search of 20 states comes to its end")
@@ -211,5 +241,7 @@ def cases(setup):
     yield Case("two units and a task that waits", lambda: have_waits(jobs), ORIGIN)
     for first in range(0, jobs, BATCH):
         yield Case(f"small jobs from {first}", lambda f=first: are_equal(setup, f), ORIGIN)
+    for first in range(0, UNREDUCED_LONG if setup.is_long else UNREDUCED, BATCH):
+        yield Case(f"without reductions from {first}", lambda f=first: is_same_without_reductions(setup, f), ORIGIN)
     for first in range(0, histories, BATCH):
         yield Case(f"histories from {first}", lambda f=first: is_same_by_history(f), ORIGIN)

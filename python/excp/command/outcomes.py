@@ -25,7 +25,10 @@ _NUMBERS = {
 _SEEDS = 20
 
 _EXCLUSIONS = {
-    "often": ("most-seconds", "whole", "media", "all", "outcome", "scenarios", "allow", "fix"),
+    "often": (
+        "most-seconds", "no-reductions", "whole", "media", "all", "outcome", "scenarios", "allow",
+        "fix",
+    ),
     "outcome": ("whole", "media", "all", "scenarios", "allow", "fix"),
 }
 
@@ -33,6 +36,8 @@ _EXCLUSIONS = {
 def add_arguments(parser: argparse.ArgumentParser) -> None:
     for name, (least, most) in _NUMBERS.items():
         parser.add_argument(f"--{name}", type=number(least, most), metavar="N")
+    says = "tries orders that lose nothing too"
+    parser.add_argument("--no-reductions", action="store_true", help=says)
     parser.add_argument("--whole", action="store_true", help="the whole outputs too")
     parser.add_argument("--media", action="store_true", help="the media at the end too")
     parser.add_argument("--all", action="store_true", help="every outcome with its steps")
@@ -52,7 +57,8 @@ def run(given: argparse.Namespace) -> int:
     from .told_outcomes import Wanted, carry_out
 
     check_exclusions(given, _EXCLUSIONS)
-    order = Order.of(given, "outcomes", words_of(whole=given.whole, media=given.media))
+    words = words_of(whole=given.whole, media=given.media, unreduced=given.no_reductions)
+    order = Order.of(given, "outcomes", words)
     job = read_job(given.script, order.loads)
     use_library(given.program_of)
     wanted = Wanted(
@@ -61,6 +67,7 @@ def run(given: argparse.Namespace) -> int:
         often=given.often,
         has_wholes=given.whole,
         has_media=given.media,
+        is_reduced=not given.no_reductions,
         tells_all=given.all,
         outcome=given.outcome,
         allow=given.allow,

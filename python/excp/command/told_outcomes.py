@@ -19,7 +19,7 @@ from ..outcomes.looks import Limits, Look, first_look, look_in_place
 from ..outcomes.running import running
 from ..outcomes.scenarios import scenario_of
 from ..outcomes.search import Found, Search, SearchEnded
-from ..outcomes.summary import Told, Verdict, told_verdict, verdict_of
+from ..outcomes.summary import Counts, Told, Verdict, told_verdict, verdict_of
 from ..outcomes.tally import Tally, shares
 from ..outcomes.telling import Asked, Keeper, Teller
 from ..outcomes.told_media import MediaTeller
@@ -45,10 +45,16 @@ class Wanted:
     often: Optional[int]
     has_wholes: bool
     has_media: bool
+    is_reduced: bool
     tells_all: bool
     outcome: Optional[Sequence[int]]
     allow: Optional[Sequence[str]]
     fix: Optional[str]
+
+    @property
+    def counts(self) -> Counts:
+        """What the last line says of the search."""
+        return Counts(self.has_wholes, self.is_reduced)
 
     @property
     def turn_of_seeds(self) -> int:
@@ -195,7 +201,7 @@ class _Run:
         missed = tally.missed(found)
         told = self._tell(tally, kept)
         verdict = verdict_of(found, told)
-        _print(told_verdict(found, verdict, told, self._look, wanted.has_wholes))
+        _print(told_verdict(found, verdict, told, self._look, wanted.counts))
         if missed is not None:
             _note_missed(*missed)
             return FAILED

@@ -40,6 +40,15 @@ class Told:
     units: Optional[int]
 
 
+@dataclass(frozen=True)
+class Counts:
+    """What the last line says of a search: how many whole outputs there are, if they are sought;
+    and that it leaves no order out, if it does not."""
+
+    has_wholes: bool
+    is_reduced: bool
+
+
 def verdict_of(found: Found, told: Told) -> Verdict:
     """What is found comes to."""
     # a search that misses a request is wrong
@@ -49,15 +58,21 @@ def verdict_of(found: Found, told: Told) -> Verdict:
     return Verdict.SEVERAL if _several(found) or told.units else Verdict.DETERMINISTIC
 
 
-def told_verdict(found: Found, verdict: Verdict, told: Told, look: Look, has_wholes: bool) -> str:
+def told_verdict(found: Found, verdict: Verdict, told: Told, look: Look, counts: Counts) -> str:
     """The last line."""
     ended = WATCH if told.is_cut and found.is_complete else found.ended
-    counts = [count_of(found.states, "state")]
-    if has_wholes:
-        counts.append(count_of(len(found.wholes), "whole output"))
-    limits = ", ".join([f"turns of {count_of(look.turn, 'command')}", *counts])
+    limits = ", ".join(_limits(found, look, counts))
     more = _COARSE if look.is_coarse and verdict != Verdict.NOT_ALL else ""
     return f"{_said(found, verdict, told)} ({limits}{_ENDS[ended]}){more}\n"
+
+
+def _limits(found: Found, look: Look, counts: Counts) -> Iterator[str]:
+    yield f"turns of {count_of(look.turn, 'command')}"
+    if not counts.is_reduced:
+        yield "no reductions"
+    yield count_of(found.states, "state")
+    if counts.has_wholes:
+        yield count_of(len(found.wholes), "whole output")
 
 
 def _said(found: Found, verdict: Verdict, told: Told) -> str:
