@@ -75,15 +75,13 @@ def parts_of(unit, medium):
     if "cylinders" in size:
         return {(it["cylinder"], it["head"], it["nth"]): (record_told(unit, it),) for it in rest}, "# no record {2} on track {0} {1}"
     if "count" in size:
-        parts = {(number,): (f"# item {number}", item_told(unit, it["block"])) for number, it in enumerate(rest, 1)}
-        return {**parts, LAST: (f"# the tape stands behind {size['place']} of {size['count']} items",)}, "# no item {0}"
-    parts = {(number,): (f"# page {it['page']:5} line {it['line']:2} |{seen(bytes.fromhex(it['bytes']))}",)
-             for number, it in enumerate(rest, 1)}
-    return {**parts, LAST: (f"# the paper stands at page {size['page']}, line {size['line']}",)}, "# no printed line {0}"
+        return {(number,): (f"# item {number}", item_told(unit, it["block"])) for number, it in enumerate(rest, 1)}, "# no item {0}"
+    return {(number,): (line_told(it),) for number, it in enumerate(rest, 1)}, "# no printed line {0}"
 
 
-# The place after all items or lines.
-LAST = (1 << 30,)
+def line_told(line):
+    digits = line["bytes"]
+    return f"# page {line['page']} line {line['line']}: {digits or '-'} |{seen(bytes.fromhex(digits))}|"
 
 
 def record_told(unit, record):

@@ -282,10 +282,8 @@ MEDIA = {
     "two blocks": (TAPED + to_tape(0, "B0B0") + to_tape(1, "B1B1") + EXCP.format(0, 0) + EXCP.format(1, 1),
                    {("# item 1", "block 0 B0B0", "# item 2", "block 0 B1B1"), ("# item 1", "block 0 B1B1", "# item 2", "block 0 B0B0")}),
     "a block or none": (TAPED + to_tape(0, "B0B0") + EXCP.format(0, 0) + "purge 0 0 1 quiesce\n",
-                        {("# item 1", "block 0 B0B0", "# the tape stands behind 1 of 1 items"),
-                         ("# no item 1", "# the tape stands behind 0 of 0 items")}),
-    "a line or none": (PRINTED, {("# page     1 line  1 |AB", "# the paper stands at page 1, line 2"),
-                                 ("# no printed line 1", "# the paper stands at page 1, line 1")}),
+                        {("# item 1", "block 0 B0B0"), ("# no item 1",)}),
+    "a line or none": (PRINTED, {("# page 1 line 1: C1C2 |AB|",), ("# no printed line 1",)}),
 }
 
 

@@ -3,24 +3,25 @@
 from __future__ import annotations
 
 from dataclasses import dataclass
-from typing import Callable, Dict, Mapping, Sequence, Tuple
+from typing import Callable, Mapping, Sequence, Tuple
 
 from ..device_commands import DISK, PRINTER, TAPE
-from ..reporting.look import Look
-from ..reporting.medium_lines import item_line, line_of_paper, paper_stands, record_line
+from ..images.ebcdic import seen
+from ..reporting.medium_lines import item_line, record_line
 from ..reporting.record import Members, members
+from ..reporting.texts import shown
 
 # The place of something on a medium: cylinder, head and number of a record, or the number of an
-# item or a line. After all items or lines comes where the medium stands.
+# item or a line.
 Place = Tuple[int, ...]
-_STANDS: Place = (1 << 62,)
 
 Parts = Mapping[Place, str]
 
 
 @dataclass(frozen=True)
 class Medium:
-    """The medium of a kind of device: a line for what is at each place."""
+    """The medium of a kind of device: a line for what is at each place. Where a tape or paper
+    stands is no part of it."""
 
     kind: str
     parts: Parts
@@ -30,33 +31,31 @@ def medium_of(record: str) -> Medium:
     """The medium of a unit, by its record."""
     unit, *lines = map(members, filter(None, record.splitlines()))
     at = next(place for place, it in enumerate(lines) if it["what"] == "medium")
-    parts = _PARTS[unit["kind"]](unit["unit"], lines[at], lines[at + 1 :])
-    return Medium(unit["kind"], parts)
+    return Medium(unit["kind"], _PARTS[unit["kind"]](unit["unit"], lines[at + 1 :]))
 
 
-def _of_disk(unit: int, _: Members, records: Sequence[Members]) -> Parts:
+def _of_disk(unit: int, records: Sequence[Members]) -> Parts:
     return {(it["cylinder"], it["head"], it["nth"]): record_line(unit, it) for it in records}
 
 
-def _of_tape(unit: int, size: Members, items: Sequence[Members]) -> Parts:
-    parts: Dict[Place, str] = {
+def _of_tape(unit: int, items: Sequence[Members]) -> Parts:
+    return {
         (number,): f"# item {number}\n{item_line(unit, it['block'])}"
         for number, it in enumerate(items, 1)
     }
-    parts[_STANDS] = f"# the tape stands behind {size['place']} of {size['count']} items\n"
-    return parts
 
 
-def _of_printer(_: int, size: Members, lines: Sequence[Members]) -> Parts:
-    look = Look()
-    parts: Dict[Place, str] = {
-        (number,): line_of_paper(it, look) for number, it in enumerate(lines, 1)
-    }
-    parts[_STANDS] = paper_stands(size)
-    return parts
+def _of_printer(_: int, lines: Sequence[Members]) -> Parts:
+    return {(number,): _line_of_paper(it) for number, it in enumerate(lines, 1)}
 
 
-_PARTS: Mapping[str, Callable[[int, Members, Sequence[Members]], Parts]] = {
+def _line_of_paper(line: Members) -> str:
+    data = line["bytes"]
+    place = f"page {line['page']} line {line['line']}"
+    return f"# {place}: {shown(data)} |{seen(bytes.fromhex(data))}|\n"
+
+
+_PARTS: Mapping[str, Callable[[int, Sequence[Members]], Parts]] = {
     DISK: _of_disk,
     TAPE: _of_tape,
     PRINTER: _of_printer,

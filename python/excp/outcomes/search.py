@@ -83,10 +83,11 @@ class Search:
         return self._found
 
     def of_changed(self, text: bytes, most_states: int) -> Optional[Found]:
-        """Searches a changed job, up to so many states. `None` if memory ran out. Then the job is
-        searched anew, by another child."""
+        """Searches a changed job, up to so many states. `None` if memory ran out. If that ended the
+        program, the job is searched anew by another child."""
         try:
-            return _found(self._answer(f"try {most_states} {len(text)}", text))
+            found = _found(self._answer(f"try {most_states} {len(text)}", text))
+            return None if found.ended == MEMORY and not found.outcomes else found
         except SearchEnded as ended:
             before = self._found
             if not ended.may_lack_memory:

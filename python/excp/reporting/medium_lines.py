@@ -84,19 +84,10 @@ def _printer_lines(record: Record, unit: Members, look: Look) -> Iterator[str]:
     size = members(record.take())
     yield f"printer {unit['unit']} {unit['isc']} {size['lines']} {size['pages']}\n"
     for line in record.all_of("line"):
-        yield line_of_paper(members(line), look)
-    yield paper_stands(size)
-
-
-def line_of_paper(line: Members, look: Look) -> str:
-    """A line that a printer printed."""
-    text = look.text(bytes.fromhex(line["bytes"]))
-    return f"# page {line['page']:5} line {line['line']:2} |{text}\n"
-
-
-def paper_stands(size: Members) -> str:
-    """Where the paper of a printer stands."""
-    return f"# the paper stands at page {size['page']}, line {size['line']}\n"
+        it = members(line)
+        text = look.text(bytes.fromhex(it["bytes"]))
+        yield f"# page {it['page']:5} line {it['line']:2} |{text}\n"
+    yield f"# the paper stands at page {size['page']}, line {size['line']}\n"
 
 
 _LINES: Mapping[str, Callable[[Record, Members, Look], Iterator[str]]] = {
