@@ -20,11 +20,13 @@ from small_jobs import small_job
 ORIGIN = "docs/MANUAL.md, every outcome of a job: over all lawful orders of the steps"
 
 # How many small jobs there are, also in the long form, and how many are one case. Each runs by two turns, and one in so many by a
-# third. Of the jobs of a case so many may be left unfinished by each turn.
+# third. By the second one media are not compared, which takes as long as to compare posts. Of the jobs of a case so many may be left
+# unfinished by each turn.
 JOBS = 200
 JOBS_LONG = 2_000
 BATCH = 20
-TURNS = 1, 2
+SHORT_TURN = 2
+TURNS = 1, SHORT_TURN
 LONG_TURN, LONG_TURNS = 64, 10
 UNFINISHED = 1
 
@@ -134,8 +136,9 @@ def is_equal(setup, script, turn=USUAL_TURN):
     words = "--turn", str(turn)
     told, outputs = outcomes(setup, script, *words)
     alone = {name: set(posts) for name, posts in outcomes_of(setup, script, *words)[0].items()}
-    media = media_by(setup, script, "--all", "--seeds", "0", *words)[0]
-    require(media == media_told(found[2]), f"the media are {media}, and those of every order {media_told(found[2])}; of\n{script}")
+    if turn != SHORT_TURN:
+        media = media_by(setup, script, "--all", "--seeds", "0", *words)[0]
+        require(media == media_told(found[2]), f"the media are {media}, and those of every order {media_told(found[2])}; of\n{script}")
     some = {name: grouped(posts) for name, posts in told.items()}
     require(some == alone, f"the outcomes with whole outputs are {some}, and without them {alone}; of\n{script}")
     require(told == found[0], f"the outcomes are {told}, and those of every order {found[0]}; of\n{script}")

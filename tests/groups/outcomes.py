@@ -395,8 +395,8 @@ def is_cut(setup):
 def looks_closely(setup):
     """Without `--turn`, a search looks between all commands if that is no long search, or if nothing halts a program."""
     expect(setup.run("outcomes", script=FEW), (5, setup.run("outcomes", "--turn", "1", script=FEW).out))
-    _, last = outcomes_of(setup, LONG, "--most-states", "25000")
-    require(re.search(r" \(turns of 1 command, 2500\d states, ended by --most-states\)$", last), f"the last line is {last!r}")
+    _, last = outcomes_of(setup, LONG, "--most-states", "100")
+    require(re.search(r" \(turns of 1 command, 10\d states, ended by --most-states\)$", last), f"the last line is {last!r}")
     told, last = outcomes_of(setup, LOOPING, "--seeds", "2")
     require(set(told["0 0 1"]) == {LOOPED, WAITED, HALTED, AFTER_EVEN}, f"the outcomes are {told['0 0 1']}")
     require(re.fullmatch(f"{LOOPS} requests have more than one outcome "
