@@ -401,7 +401,7 @@ def looks_closely(setup):
     require(set(told["0 0 1"]) == {LOOPED, WAITED, HALTED, AFTER_EVEN}, f"the outcomes are {told['0 0 1']}")
     require(re.fullmatch(f"{LOOPS} requests have more than one outcome "
                          r"\(turns of 64 commands, \d+ states\); --turn 1 looks between all commands", last), f"the last line is {last!r}")
-    told, last = outcomes_of(setup, LOOP)
+    told, last = outcomes_of(setup, LOOP, "--turn", "1")
     require(set(told["0 0 1"]) == {LOOPED, WAITED, HALTED, AFTER_ODD, AFTER_EVEN}, f"the outcomes are {told['0 0 1']}")
     require(re.search(r" \(turns of 1 command, \d+ states\)$", last), f"the last line is {last!r}")
 
