@@ -615,14 +615,14 @@ def says_why_it_writes_nothing(setup):
             require(f"# {why}, so no changed job is written\n" in ran.out and not os.path.exists(file), "it does not say why", ran)
 
 
-# A program that hands words and questions on to excp_tools, up to the first changed script. There it ends.
+# A program that hands words and questions on to excp_tools, but changed scripts. There it does something else.
 NO_HINT = """#!{python}
 import os, signal, subprocess, sys
 with subprocess.Popen([{tools!r}, *sys.argv[1:]], stdin=subprocess.PIPE) as child:
     for line in sys.stdin.buffer:
         if line.startswith(b"try "):
-            child.kill()
             {end}
+            continue
         child.stdin.write(line)
         child.stdin.flush()
     child.stdin.close()
@@ -636,7 +636,9 @@ def goes_on_without_hints(setup):
     hints = re.compile(r"# line \d+ races with .*\n(# (its request|no wait) .*\n)?(#   (before )?line .*\n)*")
     require(len(hints.findall(usual.out)) == 2, "there are not two hints", usual)
     without = hints.sub("", usual.out)
-    ends = ("sys.exit(3)", 5, without), ("os.kill(os.getpid(), signal.SIGKILL)", 5, without), ("sys.exit(4)", 4, None)
+    lacks = "print('{\"ended\":\"memory\",\"states\":0,\"bytes\":0}\\n{\"last\":true}', flush=True)"
+    ends = (("child.kill(); sys.exit(3)", 5, without), ("child.kill(); os.kill(os.getpid(), signal.SIGKILL)", 5, without),
+            (f"sys.stdin.buffer.read(int(line.split()[2])); {lacks}", 5, without), ("child.kill(); sys.exit(4)", 4, None))
     for end, status, output in ends:
         with tempfile.TemporaryDirectory() as folder:
             program = f"{folder}/excp_tools"
