@@ -38,14 +38,18 @@ uint32_t excp_call_purge_task(SITE, uint16_t unit, uint16_t task, uint8_t mode, 
 uint32_t excp_call_close(SITE, uint16_t unit, uint16_t dcb, excp_answer *answer);
 uint32_t excp_call_reset(SITE, uint16_t unit, uint16_t dcb);
 uint32_t excp_call_look(SITE, uint16_t unit, excp_unit_state *state);
+uint32_t excp_call_look_active(SITE, uint16_t unit, excp_active_request *active);
+uint32_t excp_call_look_place(SITE, uint16_t unit, excp_place *place);
 uint32_t excp_call_look_dcb(SITE, uint16_t unit, uint16_t dcb, excp_dcb_state *state);
 uint32_t excp_call_waiting(SITE, uint16_t unit, uint32_t place, uint16_t *task, uint64_t *number);
 uint32_t excp_call_look_entry(SITE, uint16_t unit, uint32_t place, excp_trace_entry *entry);
 uint32_t excp_call_read_record(SITE, uint16_t unit, uint16_t cylinder, uint16_t head, uint32_t place, excp_record *record, ROOM(bytes));
+uint32_t excp_call_read_item(SITE, uint16_t unit, uint32_t place, excp_item *item, ROOM(bytes));
 uint32_t excp_call_printed_line(SITE, uint16_t unit, uint32_t place, excp_line *line, ROOM(bytes));
 uint32_t excp_call_make_record(SITE, uint16_t unit, uint64_t most_steps, size_t *length);
 uint32_t excp_call_make_image(SITE, uint16_t unit, size_t *length);
 uint32_t excp_call_made_length(SITE, size_t *length);
+uint32_t excp_call_drop_made(SITE);
 uint32_t excp_call_copy_out(SITE, size_t from, ROOM(bytes));
 uint32_t excp_call_checkpoint(SITE, uint16_t unit);
 
@@ -88,7 +92,7 @@ const char *excp_message(excp_status status)
         [EXCP_NO_NUMBER] = "the task used its last number at the unit",
         [EXCP_NO_POST] = "no post was delivered to the task that it has not collected",
         [EXCP_NO_ROOM] = "the buffer is too short, or so many bytes were not made",
-        [EXCP_NOTHING_THERE] = "no request, entry, record or line is at that place",
+        [EXCP_NOTHING_THERE] = "no request, entry, record, item or line is at that place, or none is active",
         [EXCP_NOT_IDLE] = "a request is in flight, waits, is active or out, or a post is not collected",
         [EXCP_IN_ERROR] = "a DCB is in error",
     };
@@ -149,17 +153,22 @@ CALL(close, (SITE, uint16_t unit, uint16_t dcb, excp_answer *answer), site && an
 CALL(reset, (SITE, uint16_t unit, uint16_t dcb), site, site, unit, dcb)
 
 CALL(look, (SITE, uint16_t unit, excp_unit_state *state), site && state, site, unit, state)
+CALL(look_active, (SITE, uint16_t unit, excp_active_request *active), site && active, site, unit, active)
+CALL(look_place, (SITE, uint16_t unit, excp_place *place), site && place, site, unit, place)
 CALL(look_dcb, (SITE, uint16_t unit, uint16_t dcb, excp_dcb_state *state), site && state, site, unit, dcb, state)
 CALL(waiting, (SITE, uint16_t unit, uint32_t place, uint16_t *task, uint64_t *number), site && task && number, site, unit, place, task,
      number)
 CALL(look_entry, (SITE, uint16_t unit, uint32_t place, excp_trace_entry *entry), site && entry, site, unit, place, entry)
 CALL(read_record, (SITE, uint16_t unit, uint16_t cylinder, uint16_t head, uint32_t place, excp_record *record, uint8_t *bytes, size_t room),
      site && record && IS_SLICE(bytes, room), site, unit, cylinder, head, place, record, BYTES(bytes, room))
+CALL(read_item, (SITE, uint16_t unit, uint32_t place, excp_item *item, uint8_t *bytes, size_t room),
+     site && item && IS_SLICE(bytes, room), site, unit, place, item, BYTES(bytes, room))
 CALL(printed_line, (SITE, uint16_t unit, uint32_t place, excp_line *line, uint8_t *bytes, size_t room),
      site && line && IS_SLICE(bytes, room), site, unit, place, line, BYTES(bytes, room))
 CALL(make_record, (SITE, uint16_t unit, uint64_t most_steps, size_t *length), site && length, site, unit, most_steps, length)
 CALL(make_image, (SITE, uint16_t unit, size_t *length), site && length, site, unit, length)
 CALL(made_length, (SITE, size_t *length), site && length, site, length)
+CALL(drop_made, (SITE), site, site)
 CALL(copy_out, (SITE, size_t from, uint8_t *bytes, size_t length), site && IS_SLICE(bytes, length), site, from, BYTES(bytes, length))
 
 CALL(checkpoint, (SITE, uint16_t unit), site, site, unit)

@@ -66,7 +66,7 @@ typedef enum excp_status {
     EXCP_NO_NUMBER = 24,     /* the task used its last number at the unit, 4,294,967,295: checkpoint the unit */
     EXCP_NO_POST = 25,       /* no post was delivered to the task that it has not collected */
     EXCP_NO_ROOM = 26,       /* the caller's buffer is too short; excp_copy_out: it is too long */
-    EXCP_NOTHING_THERE = 27, /* no request, entry, record or line is at that place */
+    EXCP_NOTHING_THERE = 27, /* no request, entry, record, item or line is at that place, or no request is active */
     EXCP_NOT_IDLE = 28,      /* excp_checkpoint: a request is in flight, waits, is active or out, or a post is not collected */
     EXCP_IN_ERROR = 29       /* excp_checkpoint: an open DCB is in error */
 } excp_status;
@@ -261,6 +261,30 @@ typedef struct excp_unit_state {
 
 excp_status excp_look(excp_site *site, uint16_t unit, excp_unit_state *state);
 
+/* The active request of a unit. */
+typedef struct excp_active_request {
+    uint64_t number;
+    uint32_t next;    /* the address of its next CCW, if its channel program runs, or 0 */
+    uint32_t attempt; /* how often its channel program was started */
+    uint16_t task;
+    uint16_t dcb;
+} excp_active_request;
+
+/* EXCP_NOTHING_THERE: no request is active. */
+excp_status excp_look_active(excp_site *site, uint16_t unit, excp_active_request *active);
+
+/* Where the device of a unit is on its medium. What it does not have is 0. */
+typedef struct excp_place {
+    uint32_t items;    /* that a tape has */
+    uint32_t passed;   /* of them, those before its head */
+    uint16_t cylinder; /* of the track under the heads of a disk */
+    uint16_t head;
+    uint16_t page;     /* where the next line of a printer goes, from 1 */
+    uint16_t line;     /* from 1 */
+} excp_place;
+
+excp_status excp_look_place(excp_site *site, uint16_t unit, excp_place *place);
+
 enum { EXCP_DCB_OPEN = 1, EXCP_DCB_CLOSING = 2, EXCP_DCB_CLOSED = 3 };
 
 typedef struct excp_dcb_state {
@@ -321,6 +345,16 @@ typedef struct excp_record {
 excp_status excp_read_record(excp_site *site, uint16_t unit, uint16_t cylinder, uint16_t head, uint32_t place, excp_record *record,
                              uint8_t *bytes, size_t room);
 
+typedef struct excp_item {
+    uint16_t length; /* of a block, 1 to 65,535; 0 of a tape mark */
+    uint8_t is_mark; /* 1 if it is a tape mark */
+} excp_item;
+
+/* The item of a tape at a place, counted from 0, from the load point on. The data of a block go to `bytes`. EXCP_NO_ROOM: it has more
+ * than `room`. EXCP_NOTHING_THERE: there is no such item. EXCP_BAD_MEDIUM: the unit is no tape. A call takes time in the items before
+ * the place; excp_make_image makes all at once. */
+excp_status excp_read_item(excp_site *site, uint16_t unit, uint32_t place, excp_item *item, uint8_t *bytes, size_t room);
+
 typedef struct excp_line {
     uint16_t page;   /* from 1 */
     uint16_t line;   /* from 1 */
@@ -342,6 +376,9 @@ excp_status excp_make_record(excp_site *site, uint16_t unit, uint64_t most_steps
 /* The medium of a unit as an image: a disk as CKD_P370, a tape as AWSTAPE, the paper of a printer as text in UTF-8
  * (docs/FORMATS.md). What was not written is as in the image that the unit came from. A checkpoint leaves the image as it is. */
 excp_status excp_make_image(excp_site *site, uint16_t unit, size_t *length);
+
+/* Gives back the memory of what was made last, so that a site in long use holds none of it. excp_made_length is 0 then. */
+excp_status excp_drop_made(excp_site *site);
 
 /* How many bytes were made last. */
 excp_status excp_made_length(excp_site *site, size_t *length);

@@ -24,8 +24,8 @@ if TYPE_CHECKING:
     from .site import Site
     from .unit import Dcb, Unit
     from .values import (
-        TAPE_MARK, Active, Answer, DcbPhase, DcbState, Device, Entry, EntryKind, Fault, Kind, Line,
-        Method, Mode, Name, Record, Served, ServedEnd, UnitState,
+        TAPE_MARK, Active, ActiveRequest, Answer, DcbPhase, DcbState, Device, Entry, EntryKind,
+        Fault, Kind, Line, Method, Mode, Name, Place, Record, Served, ServedEnd, UnitState,
     )
 
 # The version of this package. That of the library is `version()`.
@@ -41,19 +41,19 @@ _NAMES = {
     "posts": "Post",
     "site": "Site",
     "unit": "Dcb Unit",
-    "values": "TAPE_MARK Active Answer DcbPhase DcbState Device Entry EntryKind Fault Kind Line "
-    "Method Mode Name Record Served ServedEnd UnitState",
+    "values": "TAPE_MARK Active ActiveRequest Answer DcbPhase DcbState Device Entry EntryKind "
+    "Fault Kind Line Method Mode Name Place Record Served ServedEnd UnitState",
 }
 
 _MODULES = {name: module for module, names in _NAMES.items() for name in names.split()}
 
 __all__ = [
-    "TAPE_MARK", "Active", "Answer", "Area", "BadImage", "BadMedium", "BadNumber", "BadRequest",
-    "Ccw", "Code", "Csw", "Dcb", "DcbPhase", "DcbState", "Device", "Entry", "EntryKind",
-    "ExcpError", "Extent", "Fault", "Flag", "Full", "InError", "Iob", "Kind", "LibraryNotFound",
-    "Line", "Method", "Mode", "Name", "NoDcb", "NoImage", "NoMemory", "NoNumber", "NoPost",
-    "NoSite", "NotIdle", "Op", "Post", "Record", "Seek", "Served", "ServedEnd", "Site", "Status",
-    "Unit", "UnitState", "is_proved", "message", "version",
+    "TAPE_MARK", "Active", "ActiveRequest", "Answer", "Area", "BadImage", "BadMedium", "BadNumber",
+    "BadRequest", "Ccw", "Code", "Csw", "Dcb", "DcbPhase", "DcbState", "Device", "Entry",
+    "EntryKind", "ExcpError", "Extent", "Fault", "Flag", "Full", "InError", "Iob", "Kind",
+    "LibraryNotFound", "Line", "Method", "Mode", "Name", "NoDcb", "NoImage", "NoMemory",
+    "NoNumber", "NoPost", "NoSite", "NotIdle", "Op", "Place", "Post", "Record", "Seek", "Served",
+    "ServedEnd", "Site", "Status", "Unit", "UnitState", "is_proved", "message", "version",
 ]
 
 

@@ -60,28 +60,30 @@ class Calls:
         self.call(name, unit, *values, answer)
         return answer
 
-    def made(self) -> bytes:
-        """The bytes that the site made last."""
+    def take_made(self) -> bytes:
+        """The bytes that the site made last, which it holds no longer."""
         length = ctypes.c_size_t()
         self.call("made_length", length)
         made = ctypes.create_string_buffer(length.value)
         self.call("copy_out", 0, made)
+        self.call("drop_made")
         return made.raw
 
     def made_pieces(self, name: str, unit: int) -> Iterator[bytes]:
-        """The bytes that a call makes of a unit, in pieces."""
+        """The bytes that a call makes of a unit, in pieces. The site holds none of them then."""
         made = ctypes.c_size_t()
         self.call(name, unit, made)
         for start in range(0, made.value, _AT_A_TIME):
             piece = ctypes.create_string_buffer(min(_AT_A_TIME, made.value - start))
             self.call("copy_out", start, piece)
             yield piece.raw
+        self.call("drop_made")
 
     def make(self, name: str, unit: int, *values: Any) -> bytes:
         """The bytes that a call makes of a unit."""
         with self.lock:
             self.call(name, unit, *values, ctypes.c_size_t())
-            return self.made()
+            return self.take_made()
 
 
 def _free(handle: Handle) -> None:

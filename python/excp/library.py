@@ -56,6 +56,21 @@ class UnitState(Structure):
     ]
 
 
+class ActiveRequest(Structure):
+    _fields_ = [
+        ("number", c_uint64),
+        *((it, c_uint32) for it in ("next", "attempt")),
+        *((it, c_uint16) for it in ("task", "dcb")),
+    ]
+
+
+class Place(Structure):
+    _fields_ = [
+        *((it, c_uint32) for it in ("items", "passed")),
+        *((it, c_uint16) for it in ("cylinder", "head", "page", "line")),
+    ]
+
+
 class DcbState(Structure):
     _fields_ = [(it, c_uint8) for it in ("state", "in_error", "file_mask")]
 
@@ -74,6 +89,10 @@ class Record(Structure):
         ("cylinder", c_uint16), ("head", c_uint16), ("number", c_uint8), ("key_length", c_uint8),
         ("data_length", c_uint16),
     ]
+
+
+class Item(Structure):
+    _fields_ = [("length", c_uint16), ("is_mark", c_uint8)]
 
 
 class Line(Structure):
@@ -120,13 +139,17 @@ CALLS = {
     "close": "u16 u16 ref",
     "reset": "u16 u16",
     "look": "u16 ref",
+    "look_active": "u16 ref",
+    "look_place": "u16 ref",
     "look_dcb": "u16 u16 ref",
     "waiting": "u16 u32 ref ref",
     "look_entry": "u16 u32 ref",
     "read_record": "u16 u16 u16 u32 ref buffer",
+    "read_item": "u16 u32 ref buffer",
     "printed_line": "u16 u32 ref buffer",
     "make_record": "u16 u64 ref",
     "make_image": "u16 ref",
+    "drop_made": "",
     "made_length": "ref",
     "copy_out": "size buffer",
     "checkpoint": "u16",

@@ -139,7 +139,7 @@ class Site:
             except BaseException as error:
                 calls.call("clear_medium")
                 if isinstance(error, BadImage):
-                    raise BadImage(error.status, calls.made().decode("utf-8")) from None
+                    raise BadImage(error.status, calls.take_made().decode("utf-8")) from None
                 raise
             self.units.append(Unit(self, unit.value))
             return self.units[-1]

@@ -4,15 +4,15 @@ from __future__ import annotations
 
 import ctypes
 import itertools
-from typing import TYPE_CHECKING, Any, Iterator, List, Sequence, Tuple
+from typing import TYPE_CHECKING, Any, Iterator, List, Optional, Sequence, Tuple, Union
 
 from . import library
 from .blocks import Csw, Extent, code_of
 from .errors import Status
 from .reporting.text import unit_history
 from .values import (
-    Active, Answer, DcbPhase, DcbState, Device, Entry, EntryKind, Line, Method, Mode, Name, Record,
-    Served, ServedEnd, UnitState,
+    TAPE_MARK, Active, ActiveRequest, Answer, DcbPhase, DcbState, Device, Entry, EntryKind, Line,
+    Method, Mode, Name, Place, Record, Served, ServedEnd, TapeMark, UnitState,
 )
 
 if TYPE_CHECKING:
@@ -113,6 +113,26 @@ class Unit:
             printed=found.printed,
         )
 
+    @property
+    def active(self) -> Optional[ActiveRequest]:
+        """The active request, if there is one."""
+        found, calls = library.ActiveRequest(), self._calls
+        with calls.lock:
+            if not calls.finds("look_active", Status.NOTHING_THERE, self.number, found):
+                return None
+            runs = self.look().active == Active.RUNNING
+        name = Name(found.task, self.number, found.number)
+        return ActiveRequest(name, found.dcb, found.attempt, found.next if runs else None)
+
+    @property
+    def place(self) -> Place:
+        """Where the device is on its medium."""
+        found = library.Place()
+        self._calls.call("look_place", self.number, found)
+        return Place(
+            found.items, found.passed, found.cylinder, found.head, found.page, found.line
+        )
+
     def _waiting(self, place: int) -> Name:
         task, number = ctypes.c_uint16(), ctypes.c_uint64()
         self._calls.call("waiting", self.number, place, task, number)
@@ -165,6 +185,12 @@ class Unit:
             )
             for it, data in found
         ]
+
+    def items(self) -> List[Union[bytes, TapeMark]]:
+        """The blocks and tape marks of a tape, from its load point on. Raises `BadMedium` for
+        another device."""
+        found = self._each("read_item", (), library.Item, 65535)
+        return [TAPE_MARK if it.is_mark else bytes(data[: it.length]) for it, data in found]
 
     def printed(self) -> List[Line]:
         """The lines that a printer printed, the oldest first."""

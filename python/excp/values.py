@@ -213,6 +213,35 @@ class UnitState:
 
 
 @dataclass(frozen=True)
+class ActiveRequest:
+    """The active request of a unit: its name, its DCB, how often its channel program was started,
+    and the address of its next CCW, if its program runs."""
+
+    name: Name
+    dcb: int
+    attempt: int
+    next_ccw: Optional[int]
+
+    def __repr__(self) -> str:
+        at = "no CCW" if self.next_ccw is None else f"CCW at {self.next_ccw:06X}"
+        return f"<ActiveRequest {self.name} of DCB {self.dcb}, attempt {self.attempt}, {at}>"
+
+
+@dataclass(frozen=True)
+class Place:
+    """Where a device is on its medium. What it does not have is 0: how many items a tape has, and
+    how many of them are before its head; the track under the heads of a disk; and where the next
+    line of a printer goes, both counted from 1."""
+
+    items: int = 0
+    passed: int = 0
+    cylinder: int = 0
+    head: int = 0
+    page: int = 0
+    line: int = 0
+
+
+@dataclass(frozen=True)
 class DcbState:
     phase: DcbPhase
     in_error: bool

@@ -22,9 +22,12 @@ STRUCTURES = {
     "excp_served": library.Served,
     "excp_post": library.Post,
     "excp_unit_state": library.UnitState,
+    "excp_active_request": library.ActiveRequest,
+    "excp_place": library.Place,
     "excp_dcb_state": library.DcbState,
     "excp_trace_entry": library.Entry,
     "excp_record": library.Record,
+    "excp_item": library.Item,
     "excp_line": library.Line,
 }
 

@@ -1,5 +1,6 @@
 """Sites, units and events, by docs/MANUAL.md, docs/SPECIFICATION.md and c/excp.h."""
 
+import ctypes
 import json
 import re
 import struct
@@ -7,8 +8,8 @@ import threading
 import unittest
 
 import excp
-from excp import (TAPE_MARK, Active, Answer, Area, Ccw, Code, DcbPhase, Device, EntryKind, Extent, Fault, Flag, Kind, Line, Method,
-                  Mode, Name, Op, Record, Seek, ServedEnd, Site, Status)
+from excp import (TAPE_MARK, Active, ActiveRequest, Answer, Area, Ccw, Code, DcbPhase, Device, EntryKind, Extent, Fault, Flag, Kind,
+                  Line, Method, Mode, Name, Op, Place, Record, Seek, ServedEnd, Site, Status)
 
 TRACK = [Extent.between((0, 0), (0, 0), 1)]
 
@@ -108,6 +109,74 @@ class Entries(unittest.TestCase):
             with self.assertRaises(excp.ExcpError) as raised:
                 next(disk.entries())
             self.assertEqual(raised.exception.status, Status.NO_UNIT)
+
+
+class Readers(unittest.TestCase):
+    """What a unit tells of its active request, of its medium, and where its device is on it."""
+
+    def test_active(self):
+        """A search that finds, and a read, whose second attempt begins again at the first CCW."""
+        with Site() as site:
+            disk, dcb = a_disk(site, faults=[Fault(3, sense=0x0800)])
+            self.assertIsNone(disk.active)
+            area = read_record()
+            site.issue(0, dcb, area)
+            disk.take()
+            disk.start()
+            self.assertEqual(disk.active, ActiveRequest(Name(0, 0, 1), 1, 1, area["CP"]))
+            # the search that passes R0 goes on at the TIC, and that which finds record 1 after it
+            for commands, ccw in (1, 1), (1, 2):
+                disk.run(commands)
+                self.assertEqual(disk.active, ActiveRequest(Name(0, 0, 1), 1, 1, area["CP"] + 8 * ccw))
+            disk.run()
+            self.assertEqual(disk.active, ActiveRequest(Name(0, 0, 1), 1, 1, None))
+            disk.interrupt()
+            self.assertEqual((disk.active.attempt, disk.active.next_ccw), (1, None))
+            disk.start()
+            self.assertEqual(disk.active, ActiveRequest(Name(0, 0, 1), 1, 2, area["CP"]))
+            self.assertEqual(repr(disk.active), "<ActiveRequest 0 0 1 of DCB 1, attempt 2, CCW at 001030>")
+            disk.serve()
+            self.assertIsNone(disk.active)
+
+    def test_tape(self):
+        """Two blocks and a mark; a write of a block after the first one ends the tape there."""
+        with Site() as site:
+            tape = site.tape(items=[b"ONE", TAPE_MARK, b"THREE"], length=100)
+            dcb = tape.open()
+            self.assertEqual((tape.items(), tape.place), ([b"ONE", TAPE_MARK, b"THREE"], Place(items=3)))
+            for program, items, passed in (([Ccw(Op.RDF, "BUFFER", Flag.SLI, 16)], [b"ONE", TAPE_MARK, b"THREE"], 1),
+                                           ([Ccw(Op.WRT, "DATA", count=4)], [b"ONE", b"DATA"], 2),
+                                           ([Ccw(Op.REW, flags=Flag.SLI)], [b"ONE", b"DATA"], 0)):
+                site.issue(0, dcb, request(*program, data=b"DATA"))
+                tape.serve()
+                self.assertEqual((site.post(0).code, tape.items()), (Code.ENDED, items))
+                self.assertEqual(tape.place, Place(items=len(items), passed=passed))
+            with self.assertRaises(excp.BadMedium):
+                site.printer(lines=1, pages=1).items()
+
+    def test_places(self):
+        """A seek of the prefix to cylinder 1, head 2, of 3 heads; a printed line, after which two are spaced."""
+        with Site() as site:
+            disk, printer = site.disk(cylinders=2, heads=3, track_bytes=40), site.printer(lines=9, pages=2)
+            self.assertEqual((disk.place, printer.place), (Place(), Place(page=1, line=1)))
+            area = Area(0x1000)
+            area.iob(dcb=disk.open(extents=[Extent.between((0, 0), (1, 2), 3)]), seek=Seek(cylinder=1, head=2))
+            area.ecb()
+            area.program(Ccw(Op.NOP, flags=Flag.SLI))
+            site.issue(0, disk.dcb(1), area)
+            site.issue(0, printer.open(), request(Ccw(Op.PR2, "DATA", count=4), data=b"LINE"))
+            site.serve()
+            self.assertEqual((disk.place, printer.place), (Place(cylinder=1, head=2), Place(page=1, line=3)))
+
+    def test_nothing_stays_made(self):
+        """A site holds nothing of what it made."""
+        with Site() as site:
+            tape = site.tape(items=[b"ONE"])
+            for make in tape.image, tape.record:
+                self.assertTrue(make())
+                length = ctypes.c_size_t(1)
+                site.calls.call("made_length", length)
+                self.assertEqual(length.value, 0)
 
 
 class Requests(unittest.TestCase):

@@ -111,7 +111,10 @@ typedef struct {
     excp_unit_state unit;
     excp_dcb_state dcb;
     excp_trace_entry entry;
+    excp_active_request active;
+    excp_place place;
     excp_record record;
+    excp_item item;
     excp_line line;
     uint8_t bytes[8300];
 } written;
@@ -237,7 +240,7 @@ static excp_status made_call(excp_site *site, written *to)
     uint8_t mode = (uint8_t)(rarely() ? chance(256) : chance(2));
     uint32_t most = number(70), place = number(5);
     size_t room = rarely() ? sizeof to->bytes : chance(400), from = rarely() ? SIZE_MAX - chance(9) : chance(200);
-    switch (chance(38)) {
+    switch (chance(41)) {
     case 0: case 1: case 2: case 3: return put_medium(site);
     case 4: case 5: return mount(site, to);
     case 6: case 7: return open_dcb(site, to);
@@ -266,6 +269,10 @@ static excp_status made_call(excp_site *site, written *to)
     case 34: return excp_make_record(site, unit, place, pointer(&to->length));
     case 35: return excp_make_image(site, unit, pointer(&to->length));
     case 36: return excp_made_length(site, pointer(&to->length));
+    case 37: return excp_read_item(site, unit, place, pointer(&to->item), bytes_at(to->bytes, room), room);
+    case 38:
+        return chance(2) ? excp_look_active(site, unit, pointer(&to->active)) : excp_look_place(site, unit, pointer(&to->place));
+    case 39: return excp_drop_made(site);
     default: return chance(2) ? excp_copy_out(site, from, bytes_at(to->bytes, room), room) : excp_checkpoint(site, unit);
     }
 }

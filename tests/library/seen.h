@@ -57,6 +57,7 @@ static uint64_t seen_medium(excp_site *site, uint16_t unit, uint64_t sum)
 {
     static uint8_t bytes[65535 + 255];
     excp_record record;
+    excp_item item;
     excp_line line;
     for (uint16_t track = 0; track < 4; track++)
         for (uint32_t place = 0;
@@ -65,6 +66,10 @@ static uint64_t seen_medium(excp_site *site, uint16_t unit, uint64_t sum)
             sum = mixed_number(sum, (uint64_t)record.key_length << 16 | record.data_length);
             sum = mixed(sum, bytes, (size_t)record.key_length + record.data_length);
         }
+    for (uint32_t place = 0; excp_read_item(site, unit, place, &item, bytes, sizeof bytes) == EXCP_OK; place++) {
+        sum = mixed_number(sum, (uint64_t)item.length << 8 | item.is_mark);
+        sum = mixed(sum, bytes, item.length);
+    }
     for (uint32_t place = 0; excp_printed_line(site, unit, place, &line, bytes, sizeof bytes) == EXCP_OK; place++) {
         sum = mixed_number(sum, (uint64_t)line.page << 16 | line.line);
         sum = mixed(sum, bytes, line.length);
@@ -76,6 +81,8 @@ static uint64_t seen_unit(excp_site *site, uint16_t unit, const excp_unit_state 
 {
     excp_dcb_state look;
     excp_trace_entry entry;
+    excp_active_request active;
+    excp_place at;
     size_t length;
     sum = mixed_number(sum, state->active_number);
     sum = mixed_number(sum, (uint64_t)state->in_flight << 32 | state->in_flight_room);
@@ -97,6 +104,14 @@ static uint64_t seen_unit(excp_site *site, uint16_t unit, const excp_unit_state 
                                     | entry.sense);
         sum = mixed_number(sum, (uint64_t)entry.kind << 16 | (uint64_t)entry.way << 8 | entry.code);
         sum = mixed_number(sum, (uint64_t)entry.unit_status << 8 | entry.channel_status);
+    }
+    if (excp_look_active(site, unit, &active) == EXCP_OK) {
+        sum = mixed_number(mixed_number(sum, active.number), (uint64_t)active.next << 32 | active.attempt);
+        sum = mixed_number(sum, (uint64_t)active.task << 16 | active.dcb);
+    }
+    if (excp_look_place(site, unit, &at) == EXCP_OK) {
+        sum = mixed_number(sum, (uint64_t)at.items << 32 | at.passed);
+        sum = mixed_number(sum, (uint64_t)at.cylinder << 48 | (uint64_t)at.head << 32 | (uint64_t)at.page << 16 | at.line);
     }
     sum = seen_medium(site, unit, sum);
     if (has_record && excp_make_record(site, unit, 0, &length) == EXCP_OK)

@@ -1,13 +1,18 @@
--- A UNIT, A DCB AND A POST as C sees them: `excp_unit_state`, `excp_dcb_state` and `excp_post` of c/excp.h.
+-- A UNIT, ITS ACTIVE REQUEST, THE PLACE OF ITS DEVICE, A DCB AND A POST as C sees them: `excp_unit_state`,
+-- `excp_active_request`, `excp_place`, `excp_dcb_state` and `excp_post` of c/excp.h.
 use Rattle.std.specs.Prelude.{ℕ, Option, Some, None, length}
 use Rattle.io_images.specs.Codes.{code_byte}
 use Rattle.request_piece.specs.PostedState.{PostedState}
 use Rattle.request_piece.specs.declared.piece.Name.{Name}
 use Rattle.unit_world.specs.declared.active.ActiveState.{ActiveState}
 use Rattle.excp_site.specs.Sites.{SiteView, number_of}
+use Rattle.excp_site.specs.declared.state.ActiveLook.{ActiveLook}
 use Rattle.excp_site.specs.declared.state.DcbLook.{DcbLook}
+use Rattle.excp_site.specs.declared.state.Place.{Place as PlaceLook}
 use Rattle.excp_site.specs.declared.state.UnitState.{UnitState as UnitLook}
+use Rattle.excp_c.specs.declared.looks.ActiveRequest.{ActiveRequest}
 use Rattle.excp_c.specs.declared.looks.DcbState.{DcbState}
+use Rattle.excp_c.specs.declared.looks.Place.{Place}
 use Rattle.excp_c.specs.declared.looks.UnitState.{UnitState}
 use Rattle.excp_c.specs.declared.posts.Post.{Post}
 use Rattle.excp_c.specs.Numbers.{active_number, count_of, dcb_number, as_bit, kind_number}
@@ -37,6 +42,30 @@ unit_state_of s unit look = record {
   active = state_active look.active;
   kind = kind_number look.kind;
   has_room = as_bit look.has_room;
+}
+
+-- the address of the next CCW, or 0
+abbrev pub next_in_c : Option ℕ → ℕ
+next_in_c None = 0
+next_in_c (Some address) = address
+
+abbrev pub active_request_of : SiteView → ℕ → ActiveLook → ActiveRequest
+active_request_of s unit look = record {
+  number = number_of s unit look.name;
+  next = next_in_c look.next;
+  attempt = look.attempt;
+  task = look.name.task;
+  dcb = look.dcb;
+}
+
+abbrev pub place_in_c : PlaceLook → Place
+place_in_c place = record {
+  items = count_of place.items;
+  passed = count_of place.passed;
+  cylinder = place.cylinder;
+  head = place.head;
+  page = place.page;
+  line = place.line;
 }
 
 abbrev pub dcb_state_of : DcbLook → DcbState

@@ -1,11 +1,11 @@
-//! Records of a disk, and lines of a printer (c/excp.h, "What there is").
+//! Records of a disk, items of a tape, and lines of a printer (c/excp.h, "What there is").
 
 ghost use Rattle.std.specs.Prelude.{◌≡◌, ◌≢◌, length};
 ghost use Rattle.excp_c.specs.Calls.{KeepsSite, SameSite, TestsSite};
-ghost use Rattle.excp_site.specs.Looks.{LineRefused, RecordRefused};
+ghost use Rattle.excp_site.specs.Looks.{ItemRefused, LineRefused, RecordRefused};
 ghost use Rattle.excp_c.specs.Done.{Did, Refused};
-ghost use Rattle.excp_c.specs.Readers.{LineIsLonger, Prints, ReadsSite, RecordIsLonger};
-ghost use Rattle.excp_c.specs.Contents.{byte_at, halfword_at, line_in_c, record_in_c};
+ghost use Rattle.excp_c.specs.Readers.{ItemIsLonger, LineIsLonger, Prints, ReadsItem, ReadsSite, RecordIsLonger};
+ghost use Rattle.excp_c.specs.Contents.{byte_at, halfword_at, item_in_c, line_in_c, record_in_c};
 
 use crate::buffer::{copy_both, copy_to, has_room};
 use crate::handle::Handle;
@@ -13,6 +13,7 @@ use crate::status::{NO_SITE, OK, status_in_c};
 use ckd_disk::Stored;
 use excp_site::Refusal;
 use line_printer::PrintedLine;
+use tape_unit::Stored as StoredItem;
 
 /// `excp_record`.
 #[repr(C)]
@@ -23,6 +24,14 @@ pub struct Record {
     pub number: u8,
     pub key_length: u8,
     pub data_length: u16,
+}
+
+/// `excp_item`.
+#[repr(C)]
+#[derive(Clone, Copy)]
+pub struct Item {
+    pub length: u16,
+    pub is_mark: u8,
 }
 
 /// `excp_line`.
@@ -60,6 +69,16 @@ fn record_in_c(stored: &Stored<'_>) -> Record
         number: byte_at(id, 4),
         key_length: u8::try_from(stored.key().len()).unwrap_or(u8::MAX),
         data_length: u16::try_from(stored.content().len()).unwrap_or(u16::MAX),
+    }
+}
+
+/// An item as C sees it.
+fn item_in_c(stored: &StoredItem<'_>) -> Item
+    ensures { result ≡ item_in_c stored.now }
+{
+    Item {
+        length: stored.len(),
+        is_mark: u8::from(stored.is_mark()),
     }
 }
 
@@ -104,6 +123,39 @@ pub extern "C" fn excp_call_read_record(
             }
             copy_both(bytes, stored.key(), stored.content());
             *shown = record_in_c(&stored);
+            OK
+        }
+        Err(refusal) => status_in_c(refusal),
+    }
+}
+
+/// `excp_read_item`.
+#[unsafe(no_mangle)]
+pub extern "C" fn excp_call_read_item(
+    handle: &mut Handle,
+    unit: u16,
+    place: u32,
+    item: &mut Item,
+    bytes: &mut [u8],
+) -> u32
+    ensures site { TestsSite handle.old result }
+    ensures keeps { KeepsSite handle.old handle.new }
+    ensures same { SameSite handle.old handle.new }
+    ensures done { result ≡ 0 → Did handle.old handle.new (λ s _. ReadsItem s unit place item.new bytes.old bytes.new) }
+    ensures why { result ≢ 0 → result ≢ 3 → result ≢ 26 → Refused handle.old handle.new result (λ s _. ItemRefused s.plain unit place) }
+    ensures room { result ≡ 26 → Did handle.old handle.new (λ s _. ItemIsLonger s unit place (length bytes.old)) }
+    ensures refused { result ≢ 0 → (item.new ≡ item.old) × (bytes.new ≡ bytes.old) }
+{
+    let Some(site) = handle.site() else {
+        return NO_SITE;
+    };
+    match site.read_item(unit, place as usize) {
+        Ok(stored) => {
+            if stored.content().len() > bytes.len() {
+                return status_in_c(Refusal::NoRoom);
+            }
+            copy_to(bytes, stored.content());
+            *item = item_in_c(&stored);
             OK
         }
         Err(refusal) => status_in_c(refusal),

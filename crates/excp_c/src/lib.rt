@@ -20,10 +20,10 @@ mod status;
 mod texts;
 
 pub use answer::Answer;
-pub use contents::{Line, Record};
+pub use contents::{Item, Line, Record};
 pub use entries::TraceEntry;
 pub use events::Served;
 pub use handle::Handle;
-pub use looks::{DcbState, UnitState};
+pub use looks::{ActiveRequest, DcbState, Place, UnitState};
 pub use media::Room;
 pub use posts::Post;

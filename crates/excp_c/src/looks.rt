@@ -1,17 +1,17 @@
-//! Units, DCBs and what waits (c/excp.h, "What there is").
+//! Units, their active requests and media, DCBs, and what waits (c/excp.h, "What there is").
 
 ghost use Rattle.std.specs.Prelude.{◌≡◌, ◌≢◌, length};
 ghost use Rattle.excp_c.specs.Calls.{KeepsSite, SameSite, TestsSite};
-ghost use Rattle.excp_site.specs.Looks.{DcbLookRefused, LookRefused, WaitingRefused};
+ghost use Rattle.excp_site.specs.Looks.{ActiveRefused, DcbLookRefused, LookRefused, WaitingRefused};
 ghost use Rattle.excp_c.specs.Done.{Did, Refused};
-ghost use Rattle.excp_c.specs.Readers.{ShowsSite, ShowsDcbAs, Waits};
-ghost use Rattle.excp_c.specs.Looks.{dcb_state_of, unit_state_of};
+ghost use Rattle.excp_c.specs.Readers.{ShowsActiveAs, ShowsPlace, ShowsSite, ShowsDcbAs, Waits};
+ghost use Rattle.excp_c.specs.Looks.{active_request_of, dcb_state_of, place_in_c, unit_state_of};
 ghost use Rattle.excp_c.specs.Numbers.{active_number, dcb_number, kind_number};
 
 use crate::handle::Handle;
 use crate::status::{NO_SITE, OK, count_of, status_in_c};
 use device_port::Kind;
-use excp_site::{DcbLook, Site};
+use excp_site::{ActiveLook, DcbLook, Site};
 use unit_book::DcbState as OfDcb;
 use unit_world::ActiveState;
 
@@ -29,6 +29,29 @@ pub struct UnitState {
     pub active: u8,
     pub kind: u8,
     pub has_room: u8,
+}
+
+/// `excp_active_request`.
+#[repr(C)]
+#[derive(Clone, Copy)]
+pub struct ActiveRequest {
+    pub number: u64,
+    pub next: u32,
+    pub attempt: u32,
+    pub task: u16,
+    pub dcb: u16,
+}
+
+/// `excp_place`.
+#[repr(C)]
+#[derive(Clone, Copy)]
+pub struct Place {
+    pub items: u32,
+    pub passed: u32,
+    pub cylinder: u16,
+    pub head: u16,
+    pub page: u16,
+    pub line: u16,
 }
 
 /// `excp_dcb_state`.
@@ -96,6 +119,33 @@ fn unit_state_of(site: &Site, unit: u16, state: excp_site::UnitState) -> UnitSta
     }
 }
 
+/// The active request as C sees it.
+fn active_request_of(site: &Site, unit: u16, active: ActiveLook) -> ActiveRequest
+    ensures { result ≡ active_request_of site.now unit active }
+{
+    ActiveRequest {
+        number: site.number(unit, active.name),
+        next: active.next.unwrap_or(0),
+        attempt: active.attempt,
+        task: active.name.task,
+        dcb: active.dcb,
+    }
+}
+
+/// The place of a device as C sees it.
+fn place_in_c(place: excp_site::Place) -> Place
+    ensures { result ≡ place_in_c place }
+{
+    Place {
+        items: count_of(place.items),
+        passed: count_of(place.passed),
+        cylinder: place.cylinder,
+        head: place.head,
+        page: place.page,
+        line: u16::from(place.line),
+    }
+}
+
 /// A DCB as C sees it.
 fn dcb_state_of(look: DcbLook) -> DcbState
     ensures { result ≡ dcb_state_of look }
@@ -123,6 +173,54 @@ pub extern "C" fn excp_call_look(handle: &mut Handle, unit: u16, state: &mut Uni
     match site.look(unit) {
         Ok(now) => {
             *state = unit_state_of(site, unit, now);
+            OK
+        }
+        Err(refusal) => status_in_c(refusal),
+    }
+}
+
+/// `excp_look_active`.
+#[unsafe(no_mangle)]
+pub extern "C" fn excp_call_look_active(
+    handle: &mut Handle,
+    unit: u16,
+    active: &mut ActiveRequest,
+) -> u32
+    ensures site { TestsSite handle.old result }
+    ensures keeps { KeepsSite handle.old handle.new }
+    ensures same { SameSite handle.old handle.new }
+    ensures done { result ≡ 0 → Did handle.old handle.new (λ s _. ShowsActiveAs s unit active.new) }
+    ensures why { result ≢ 0 → result ≢ 3 → Refused handle.old handle.new result (λ s _. ActiveRefused s.plain unit) }
+    ensures refused { result ≢ 0 → active.new ≡ active.old }
+{
+    let Some(site) = handle.site() else {
+        return NO_SITE;
+    };
+    match site.active(unit) {
+        Ok(now) => {
+            *active = active_request_of(site, unit, now);
+            OK
+        }
+        Err(refusal) => status_in_c(refusal),
+    }
+}
+
+/// `excp_look_place`.
+#[unsafe(no_mangle)]
+pub extern "C" fn excp_call_look_place(handle: &mut Handle, unit: u16, place: &mut Place) -> u32
+    ensures site { TestsSite handle.old result }
+    ensures keeps { KeepsSite handle.old handle.new }
+    ensures same { SameSite handle.old handle.new }
+    ensures done { result ≡ 0 → Did handle.old handle.new (λ s _. ShowsPlace s unit place.new) }
+    ensures why { result ≢ 0 → result ≢ 3 → Refused handle.old handle.new result (λ s _. LookRefused s.plain unit) }
+    ensures refused { result ≢ 0 → place.new ≡ place.old }
+{
+    let Some(site) = handle.site() else {
+        return NO_SITE;
+    };
+    match site.place(unit) {
+        Ok(now) => {
+            *place = place_in_c(now);
             OK
         }
         Err(refusal) => status_in_c(refusal),

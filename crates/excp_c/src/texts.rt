@@ -1,6 +1,6 @@
 //! Bytes that are made and copied out (c/excp.h, "Records and images").
 
-ghost use Rattle.std.specs.Prelude.{◌≡◌, ◌≢◌, ◌<◌, ◌+◌, drop, length, take};
+ghost use Rattle.std.specs.Prelude.{◌≡◌, ◌≢◌, ◌<◌, ◌+◌, [], drop, length, take};
 ghost use Rattle.excp_c.specs.Calls.{KeepsSite, SameSite, TestsSite};
 ghost use Rattle.excp_site.specs.Imaging.{ImageRefused, MakesImage};
 ghost use Rattle.excp_site.specs.Refusals.{MakeRefused, NoRoomFor};
@@ -58,6 +58,22 @@ pub extern "C" fn excp_call_made_length(handle: &mut Handle, count: &mut usize) 
         return NO_SITE;
     };
     *count = site.made_len();
+    OK
+}
+
+/// `excp_drop_made`.
+#[unsafe(no_mangle)]
+pub extern "C" fn excp_call_drop_made(handle: &mut Handle) -> u32
+    ensures site { TestsSite handle.old result }
+    ensures keeps { KeepsSite handle.old handle.new }
+    ensures done { result ≡ 0 → Did handle.old handle.new (λ s t. t ≡ record s { made = [] }) }
+    ensures why { result ≢ 0 → result ≡ 3 }
+    ensures none { result ≡ 3 → SameSite handle.old handle.new }
+{
+    let Some(site) = handle.site() else {
+        return NO_SITE;
+    };
+    site.drop_made();
     OK
 }
 

@@ -1,16 +1,21 @@
 -- WHAT A SITE TELLS of a unit (profile).
-use Rattle.std.specs.Prelude.{◌≡◌, ◌≢◌, ◌≤◌, ◌<◌, ◌-◌, ◌↔◌, Bool, IsTrue, ℕ, None, List, Option, Some, false, length, option_map, reverse, slice_get, true}
+use Rattle.std.specs.Prelude.{◌≡◌, ◌≢◌, ◌≤◌, ◌<◌, ◌-◌, ◌/◌, ◌%◌, ◌↔◌, Bool, IsTrue, ℕ, None, List, Option, Some, false, length, min, option_map, reverse, slice_get, true}
 use Rattle.any_device.specs.Devices.{any_device}
 use Rattle.any_device.specs.declared.device.AnyDevice.{AnyDevice}
-use Rattle.any_device.specs.declared.device.AnyDevice.TheVariants.{Disk, Printer}
-use Rattle.ckd_disk.specs.Disk.{records_of}
+use Rattle.any_device.specs.declared.device.AnyDevice.TheVariants.{Disk, Printer, Tape}
+use Rattle.ckd_disk.specs.Disk.{DiskState, records_of}
 use Rattle.ckd_disk.specs.Record.{Record}
 use Rattle.line_printer.specs.Paper.{Line}
 use Rattle.request_piece.specs.declared.piece.Name.{Name}
+use Rattle.request_piece.specs.declared.piece.Piece.{Piece}
+use Rattle.tape_unit.specs.Item.{Item}
+use Rattle.unit_book.specs.Activity.{IsActivity}
 use Rattle.unit_book.specs.Book.{Book, occupancy}
 use Rattle.unit_book.specs.Dcbs.{dcb_state, flag, mask_of}
 use Rattle.unit_book.specs.Media.{device}
 use Rattle.unit_book.specs.Trace.{active, waiting}
+use Rattle.unit_book.specs.declared.activity.ActivityPhase.{ActivityPhase}
+use Rattle.unit_book.specs.declared.activity.ActivityPhase.TheVariants as phases
 use Rattle.unit_book.specs.declared.dcb.DcbState.TheVariants.{Unknown}
 use Rattle.unit_book.specs.declared.entry.Entry.{Entry}
 use Rattle.unit_world.specs.Parts.{UnitPart, active_state}
@@ -18,7 +23,9 @@ use Rattle.unit_world.specs.Sites.{SiteState}
 use Rattle.excp_site.specs.Sites.{HasPart}
 use Rattle.excp_site.specs.declared.refusal.Refusal.{Refusal}
 use Rattle.excp_site.specs.declared.refusal.Refusal.TheVariants.{BadMedium, NoUnit, NoDcb, NothingThere}
+use Rattle.excp_site.specs.declared.state.ActiveLook.{ActiveLook}
 use Rattle.excp_site.specs.declared.state.DcbLook.{DcbLook}
+use Rattle.excp_site.specs.declared.state.Place.{Place}
 use Rattle.excp_site.specs.declared.state.UnitState.{UnitState}
 
 -- the device of a book as it is
@@ -44,6 +51,41 @@ pub record ShowsUnit (p : UnitPart AnyDevice) (u : UnitState) : Type 0 where
 abbrev pub LookRefused : SiteState AnyDevice → ℕ → Refusal → Type 0
 LookRefused s unit NoUnit = length s.units ≤ unit
 LookRefused s unit _ = ⊥
+
+-- THE ACTIVE REQUEST: its DCB, how often it was started, and its next CCW if its program runs
+abbrev pub next_ccw : ActivityPhase → Option ℕ
+next_ccw (phases.Running place) = Some place.next
+next_ccw (phases.Pending status) = None
+next_ccw (phases.AwaitsRestart status) = None
+
+abbrev pub active_look : Piece → ℕ → ActivityPhase → ActiveLook
+active_look piece starts phase = record { name = piece.name; dcb = piece.dcb; attempt = starts; next = next_ccw phase }
+
+pub record ShowsActive (p : UnitPart AnyDevice) (a : ActiveLook) : Type 0 where
+  pub piece : Piece
+  pub starts : ℕ
+  pub halted : Bool
+  pub covered : Bool
+  pub phase : ActivityPhase
+  pub is : IsActivity any_device p.book piece starts halted covered phase
+  pub shown : a ≡ active_look piece starts phase
+
+abbrev pub ActiveRefused : SiteState AnyDevice → ℕ → Refusal → Type 0
+ActiveRefused s unit NoUnit = length s.units ≤ unit
+ActiveRefused s unit NothingThere = HasPart s unit (λ p. active p.book.trace ≡ None)
+ActiveRefused s unit _ = ⊥
+
+-- WHERE A DEVICE IS on its medium: the track under the heads of a disk
+pub record IsTrackUnder (disk : DiskState) (cylinder head : ℕ) : Type 0 where
+  pub cylinder_is : 1 ≤ disk.heads → cylinder ≡ min (disk.track / disk.heads) 65_535
+  pub head_is : 1 ≤ disk.heads → head ≡ min (disk.track % disk.heads) 65_535
+
+-- the item at the head of a tape, and where the next line of a printer goes
+abbrev pub IsPlace : AnyDevice → Place → Type 0
+IsPlace (Disk disk) at =
+    IsTrackUnder disk at.cylinder at.head × (at ≡ record { items = 0; passed = 0; cylinder = at.cylinder; head = at.head; page = 0; line = 0 })
+IsPlace (Tape tape) at = at ≡ record { items = length tape.reel.items; passed = tape.place; cylinder = 0; head = 0; page = 0; line = 0 }
+IsPlace (Printer printer) at = at ≡ record { items = 0; passed = 0; cylinder = 0; head = 0; page = printer.at.page; line = printer.at.line }
 
 -- A DCB AS IT IS
 pub record ShowsDcb (p : UnitPart AnyDevice) (dcb : ℕ) (d : DcbLook) : Type 0 where
@@ -92,6 +134,21 @@ RecordRefused s unit cylinder head place NoUnit = length s.units ≤ unit
 RecordRefused s unit cylinder head place BadMedium = HasPart s unit (λ p. has_disk (device_now p.book) ≡ false)
 RecordRefused s unit cylinder head place NothingThere = HasPart s unit (λ p. RecordAt (device_now p.book) cylinder head place None)
 RecordRefused s unit cylinder head place _ = ⊥
+
+-- THE ITEM AT A PLACE of a tape
+abbrev pub ItemAt : AnyDevice → ℕ → Option Item → Type 0
+ItemAt (Tape tape) place i = slice_get tape.reel.items place ≡ i
+ItemAt _ place i = ⊥
+
+abbrev pub has_tape : AnyDevice → Bool
+has_tape (Tape tape) = true
+has_tape _ = false
+
+abbrev pub ItemRefused : SiteState AnyDevice → ℕ → ℕ → Refusal → Type 0
+ItemRefused s unit place NoUnit = length s.units ≤ unit
+ItemRefused s unit place BadMedium = HasPart s unit (λ p. has_tape (device_now p.book) ≡ false)
+ItemRefused s unit place NothingThere = HasPart s unit (λ p. ItemAt (device_now p.book) place None)
+ItemRefused s unit place _ = ⊥
 
 -- THE LINE AT A PLACE of what a printer printed
 abbrev pub LineAt : AnyDevice → ℕ → Option Line → Type 0

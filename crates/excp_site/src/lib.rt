@@ -20,4 +20,4 @@ pub use medium::Medium;
 pub use refusal::Refusal;
 pub use served::{Served, ServedEnd};
 pub use site::{Room, Site};
-pub use state::{DcbLook, UnitState};
+pub use state::{ActiveLook, DcbLook, Place, UnitState};

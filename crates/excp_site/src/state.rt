@@ -1,4 +1,4 @@
-//! What a site tells of a unit and of a DCB.
+//! What a site tells of a unit, of its active request, of its medium and of a DCB.
 
 use device_port::Kind;
 use request_piece::Name;
@@ -33,4 +33,30 @@ pub struct DcbLook {
     pub in_error: bool,
     /// The file mask that the supervisor set.
     pub file_mask: u8,
+}
+
+/// The active request of a unit.
+#[derive(Clone, Copy, PartialEq, Eq, Debug)]
+pub struct ActiveLook {
+    pub name: Name,
+    pub dcb: u16,
+    /// How often its channel program was started (1 to 11).
+    pub attempt: u32,
+    /// The address of its next CCW, if its channel program runs.
+    pub next: Option<u32>,
+}
+
+/// Where the device of a unit is on its medium. What it does not have is 0.
+#[derive(Clone, Copy, PartialEq, Eq, Debug)]
+pub struct Place {
+    /// How many items a tape has.
+    pub items: usize,
+    /// How many of them are before its head.
+    pub passed: usize,
+    /// The track under the heads of a disk.
+    pub cylinder: u16,
+    pub head: u16,
+    /// Where the next line of a printer goes, both counted from 1.
+    pub page: u16,
+    pub line: u8,
 }

@@ -97,6 +97,7 @@ static void see_answers_and_states(excp_site *site)
 {
     GUARDED(excp_answer, answer);
     GUARDED(excp_unit_state, state);
+    GUARDED(excp_active_request, active);
     uint64_t number = 0;
     uint16_t task = 0;
 
@@ -126,6 +127,11 @@ static void see_answers_and_states(excp_site *site)
     EXPECT(state.it.in_flight == 11 && state.it.in_flight_room == 19 && state.it.waiting == 5 && state.it.out == 3);
     EXPECT(state.it.printed == 4 && state.it.kind == EXCP_PRINTER && state.it.has_room == 0);
     EXPECT(is_whole(state.guard));
+
+    OK(excp_look_active(site, 2, &active.it));
+    EXPECT(active.it.number == 4 && active.it.next == PROGRAM && active.it.attempt == 1);
+    EXPECT(active.it.task == TASK && active.it.dcb == 3 && is_whole(active.guard));
+    EXPECT(excp_look_active(site, 1, &active.it) == EXCP_NOTHING_THERE);
 
     OK(excp_waiting(site, 2, 2, &task, &number));
     EXPECT(task == TASK && number == 7);
@@ -200,6 +206,28 @@ static void see_media(excp_site *site)
     EXPECT(is_whole(line.guard));
 }
 
+/* The items of the tape, at its load point; and the line of the printer after those that were printed, each one line on. */
+static void see_places(excp_site *site)
+{
+    GUARDED(excp_item, item);
+    GUARDED(excp_place, place);
+    excp_unit_state state;
+    uint8_t bytes[5];
+    OK(excp_read_item(site, 1, 0, &item.it, bytes, sizeof bytes));
+    EXPECT(item.it.length == 5 && item.it.is_mark == 0 && memcmp(bytes, "BLOCK", 5) == 0);
+    OK(excp_read_item(site, 1, 1, &item.it, bytes, 0));
+    EXPECT(item.it.length == 0 && item.it.is_mark == 1 && is_whole(item.guard));
+    EXPECT(excp_read_item(site, 1, 2, &item.it, bytes, sizeof bytes) == EXCP_NOTHING_THERE);
+    EXPECT(excp_read_item(site, 1, 0, &item.it, bytes, 4) == EXCP_NO_ROOM);
+    EXPECT(excp_read_item(site, 0, 0, &item.it, bytes, sizeof bytes) == EXCP_BAD_MEDIUM);
+    OK(excp_look_place(site, 1, &place.it));
+    EXPECT(place.it.items == 2 && place.it.passed == 0 && place.it.cylinder == 0 && place.it.page == 0 && place.it.line == 0);
+    OK(excp_look(site, 2, &state));
+    OK(excp_look_place(site, 2, &place.it));
+    EXPECT(place.it.page == 1 && place.it.line == state.printed && place.it.items == 0 && place.it.head == 0);
+    EXPECT(is_whole(place.guard));
+}
+
 /* The other functions, so that each is linked. */
 static void call_others(excp_site *site)
 {
@@ -212,6 +240,9 @@ static void call_others(excp_site *site)
     OK(excp_copy_out(site, length - 1, text, 1));
     EXPECT(text[0] == '\n');
     EXPECT(excp_copy_out(site, length, text, 1) == EXCP_NO_ROOM);
+    OK(excp_drop_made(site));
+    OK(excp_made_length(site, &length));
+    EXPECT(length == 0 && excp_copy_out(site, 0, text, 1) == EXCP_NO_ROOM);
     OK(excp_clear_medium(site));
     OK(excp_deliver(site, 2, &answer.it));
     EXPECT(answer.it.kind == EXCP_QUIET);
@@ -237,6 +268,7 @@ int main(void)
     see_channel_status(&site);
     see_dcbs(&site);
     see_media(&site);
+    see_places(&site);
     call_others(&site);
     OK(excp_site_free(&site));
     return faults != 0;

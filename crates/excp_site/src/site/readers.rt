@@ -2,15 +2,16 @@
 
 ghost use Rattle.std.specs.Prelude.{◌≡◌, ◌<◌, IfErr, IfOk, OnOk, Some, length};
 ghost use Rattle.unit_world.specs.Sites.{OnPart};
-ghost use Rattle.excp_site.specs.Looks.{DcbLookRefused, EntryRefused, LookRefused, ShowsDcb, ShowsUnit, TraceAt, WaitingRefused, WaitsAt, oldest_first, printed_by};
+ghost use Rattle.excp_site.specs.Looks.{ActiveRefused, DcbLookRefused, EntryRefused, IsPlace, IsTrackUnder, LookRefused, ShowsActive, ShowsDcb, ShowsUnit, TraceAt, WaitingRefused, WaitsAt, active_look, device_now, oldest_first, printed_by};
 
 use crate::refusal::Refusal;
 use crate::site::Site;
-use crate::state::{DcbLook, UnitState};
+use crate::state::{ActiveLook, DcbLook, Place, UnitState};
 use any_device::AnyDevice;
+use ckd_disk::Disk;
 use device_port::Device;
 use request_piece::Name;
-use unit_book::{DcbState, Entry, UnitBook};
+use unit_book::{Activity, ActivityPhase, DcbState, Entry, UnitBook};
 
 impl Site {
     /// A unit as it is.
@@ -54,6 +55,33 @@ impl Site {
                 file_mask: book.mask(dcb),
             }),
         }
+    }
+
+    /// The active request of a unit.
+    ///
+    /// Errors: `NoUnit`; `NothingThere` if none is active.
+    pub fn active(&self, unit: u16) -> Result<ActiveLook, Refusal>
+        ensures unit { OnOk result (unit < length self.now.plain.units) }
+        ensures ok { IfOk result (λ a. OnPart self.now.plain unit (λ p. ShowsActive p a)) }
+        ensures refused { IfErr result (ActiveRefused self.now.plain unit) }
+    {
+        self.has_unit(unit)?;
+        match self.plain.book(unit).activity() {
+            Some(activity) => Ok(active_look(&activity)),
+            None => Err(Refusal::NothingThere),
+        }
+    }
+
+    /// Where the device of a unit is on its medium.
+    ///
+    /// Error: `NoUnit`.
+    pub fn place(&self, unit: u16) -> Result<Place, Refusal>
+        ensures unit { OnOk result (unit < length self.now.plain.units) }
+        ensures ok { IfOk result (λ place. OnPart self.now.plain unit (λ p. IsPlace (device_now p.book) place)) }
+        ensures refused { IfErr result (LookRefused self.now.plain unit) }
+    {
+        self.has_unit(unit)?;
+        Ok(place_of(self.plain.book(unit).device()))
     }
 
     /// The request that waits at a place, counted from 0 in the order in which they are started.
@@ -103,4 +131,71 @@ fn printed(device: &AnyDevice) -> usize
         AnyDevice::Printer(printer) => printer.printed().len(),
         _ => 0,
     }
+}
+
+/// The active request, as a site tells of it.
+fn active_look(activity: &Activity<'_>) -> ActiveLook
+    ensures { result ≡ active_look activity.now.piece.now activity.now.starts activity.now.phase }
+{
+    ActiveLook {
+        name: activity.piece.name,
+        dcb: activity.piece.dcb,
+        attempt: activity.starts,
+        next: match &activity.phase {
+            ActivityPhase::Running(place) => Some(place.next()),
+            ActivityPhase::Pending(_) | ActivityPhase::AwaitsRestart(_) => None,
+        },
+    }
+}
+
+/// Where a device is on its medium.
+fn place_of(device: &AnyDevice) -> Place
+    ensures { IsPlace device.now result }
+{
+    let none = Place {
+        items: 0,
+        passed: 0,
+        cylinder: 0,
+        head: 0,
+        page: 0,
+        line: 0,
+    };
+    match device {
+        AnyDevice::Disk(disk) => {
+            let (cylinder, head) = track_of(disk);
+            Place {
+                cylinder,
+                head,
+                ..none
+            }
+        }
+        AnyDevice::Tape(tape) => Place {
+            items: tape.len(),
+            passed: tape.place(),
+            ..none
+        },
+        AnyDevice::Printer(printer) => {
+            let position = printer.position();
+            Place {
+                page: position.page,
+                line: position.line,
+                ..none
+            }
+        }
+    }
+}
+
+/// The cylinder and the head of the track under the heads.
+fn track_of(disk: &Disk) -> (u16, u16)
+    ensures { IsTrackUnder disk.now result.0 result.1 }
+{
+    let heads = usize::from(disk.heads());
+    if heads == 0 {
+        return (0, 0);
+    }
+    let track = disk.track();
+    (
+        u16::try_from(track / heads).unwrap_or(u16::MAX),
+        u16::try_from(track % heads).unwrap_or(u16::MAX),
+    )
 }

@@ -1,8 +1,8 @@
-//! Texts, records and printed lines.
+//! Texts, records, items of tapes and printed lines.
 
-ghost use Rattle.std.specs.Prelude.{◌≡◌, ◌<◌, ◌≤◌, ◌+◌, Some, drop, length, slice_get, take, IfErr, IfOk, OnErr, OnOk};
+ghost use Rattle.std.specs.Prelude.{◌≡◌, ◌<◌, ◌≤◌, ◌+◌, [], Some, drop, length, slice_get, take, IfErr, IfOk, OnErr, OnOk};
 ghost use Rattle.unit_world.specs.Sites.{OnPart};
-ghost use Rattle.excp_site.specs.Looks.{LineAt, LineRefused, RecordAt, RecordRefused, device_now};
+ghost use Rattle.excp_site.specs.Looks.{ItemAt, ItemRefused, LineAt, LineRefused, RecordAt, RecordRefused, device_now};
 ghost use Rattle.excp_site.specs.Refusals.{MakeRefused, NoRoomFor};
 
 use crate::refusal::Refusal;
@@ -13,6 +13,7 @@ use device_port::Fault;
 use line_printer::PrintedLine;
 use record_lines::{Part, write_unit};
 use run_record::UnitRecord;
+use tape_unit::{Items, Stored as StoredItem};
 use unit_book::UnitBook;
 
 impl Site {
@@ -63,6 +64,13 @@ impl Site {
         Ok(())
     }
 
+    /// Gives back the memory of the bytes that were made last. None are made then.
+    pub fn drop_made(&mut self)
+        ensures { self.new ≡ record self.old { made = [] } }
+    {
+        self.made = Vec::new(self.alloc);
+    }
+
     /// The record at a place of a track of a disk, counted from 0.
     ///
     /// Errors: `NoUnit`; `BadMedium` if the unit is no disk; `NothingThere` if the track has no such place.
@@ -83,6 +91,24 @@ impl Site {
         };
         match at(disk.records(cylinder, head), place) {
             Some(record) => Ok(record),
+            None => Err(Refusal::NothingThere),
+        }
+    }
+
+    /// The item at a place of a tape, counted from 0. Takes time in the items before it.
+    ///
+    /// Errors: `NoUnit`; `BadMedium` if the unit is no tape; `NothingThere` if there is no such item.
+    pub fn read_item(&self, unit: u16, place: usize) -> Result<StoredItem<'_>, Refusal>
+        ensures unit { OnOk result (unit < length self.now.plain.units) }
+        ensures ok { IfOk result (λ i. OnPart self.now.plain unit (λ p. ItemAt (device_now p.book) place (Some i))) }
+        ensures refused { IfErr result (ItemRefused self.now.plain unit place) }
+    {
+        self.has_unit(unit)?;
+        let AnyDevice::Tape(tape) = self.plain.book(unit).device() else {
+            return Err(Refusal::BadMedium);
+        };
+        match item_at(tape.items(), place) {
+            Some(item) => Ok(item),
             None => Err(Refusal::NothingThere),
         }
     }
@@ -111,6 +137,17 @@ fn at(records: Records<'_>, place: usize) -> Option<Stored<'_>>
     ensures { result ≡ slice_get records.entry place }
 {
     let mut rest = records;
+    for _ in 0..place {
+        rest.next()?;
+    }
+    rest.next()
+}
+
+/// The item at a place of a tape, if it has one.
+fn item_at(items: Items<'_>, place: usize) -> Option<StoredItem<'_>>
+    ensures { result ≡ slice_get items.entry place }
+{
+    let mut rest = items;
     for _ in 0..place {
         rest.next()?;
     }
