@@ -196,10 +196,9 @@ class Entry:
 
 @dataclass(frozen=True)
 class UnitState:
-    """What is at a unit: the active request and what it does; the requests that wait, in the order
-    in which they are started; how many requests are in flight to it, and how many more may be; how
-    many posted ones were not delivered; whether it can take another request; and how many lines it
-    printed."""
+    """What is at a unit: the active request and what it does; the requests that wait, in order of
+    their starts; how many are in flight to it, and how many more may be; how many posted ones were
+    not delivered; whether it can take another one; and how many lines it printed."""
 
     device: Device
     active: Optional[Name]
@@ -214,8 +213,8 @@ class UnitState:
 
 @dataclass(frozen=True)
 class ActiveRequest:
-    """The active request of a unit: its name, its DCB, how often its channel program was started,
-    and the address of its next CCW, if its program runs."""
+    """The active request of a unit. `attempt` is how often its program was started, and `next_ccw`
+    the address of its next CCW, if it runs."""
 
     name: Name
     dcb: int
@@ -223,15 +222,14 @@ class ActiveRequest:
     next_ccw: Optional[int]
 
     def __repr__(self) -> str:
-        at = "no CCW" if self.next_ccw is None else f"CCW at {self.next_ccw:06X}"
-        return f"<ActiveRequest {self.name} of DCB {self.dcb}, attempt {self.attempt}, {at}>"
+        at = "" if self.next_ccw is None else f", CCW at {self.next_ccw:06X}"
+        return f"<ActiveRequest {self.name} of DCB {self.dcb}, attempt {self.attempt}{at}>"
 
 
 @dataclass(frozen=True)
 class Place:
-    """Where a device is on its medium. What it does not have is 0: how many items a tape has, and
-    how many of them are before its head; the track under the heads of a disk; and where the next
-    line of a printer goes, both counted from 1."""
+    """Where a device is on its medium; what it does not have is 0. A tape has items, of which some
+    have passed its head, and a disk a track. The next line of a printer goes to `page`, `line`."""
 
     items: int = 0
     passed: int = 0
