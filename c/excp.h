@@ -9,6 +9,11 @@
  * that returns another status changes nothing, but for what its comment says. No call aborts, prints, waits, or keeps a pointer of
  * the caller: bytes are copied in and out.
  *
+ * Reasons. If a mount, excp_open or excp_issue returns EXCP_BAD_GEOMETRY, EXCP_BAD_MEDIUM, EXCP_BAD_IMAGE, or one from
+ * EXCP_BAD_EXTENT to EXCP_WRONG_DCB, the site makes the reason in words, as "record 2: a key has at most 255 bytes, not 300".
+ * excp_made_length says how long it is, and excp_copy_out copies it. Records, items, faults and extents count from 0. If memory ran
+ * out, its length is 0.
+ *
  * Pointers. Each call tests its pointers for NULL (EXCP_NULL_POINTER). A pointer to bytes may be NULL if their length is 0.
  *
  * Handles. A call on a handle that is EXCP_SITE_INIT, or whose site was freed, returns EXCP_NO_SITE. Not tested: a copy of a handle,
@@ -52,7 +57,7 @@ typedef enum excp_status {
     EXCP_TOO_MANY_DCBS = 10, /* a unit has at most 65,535 DCBs */
     EXCP_BAD_GEOMETRY = 11,  /* the size of a disk, a tape or a printer */
     EXCP_BAD_MEDIUM = 12,    /* what was put is not of the medium, or does not fit it; or the unit has another device */
-    EXCP_BAD_IMAGE = 13,     /* an image breaks a rule of its format, or has more than the tape: excp_copy_out gives the rule in words */
+    EXCP_BAD_IMAGE = 13,     /* an image breaks a rule of its format, or has more than the tape */
     EXCP_NO_IMAGE = 14,      /* excp_make_image: no model of a disk has as many heads and bytes a track */
     EXCP_BAD_EXTENT = 15,    /* an extent is not one of the device, or is not 16 bytes */
     EXCP_AREA_MISALIGNED = 16, /* the base of the storage is not a multiple of 8 */
@@ -127,7 +132,7 @@ excp_status excp_mount_printer(excp_site *site, uint64_t lines, uint64_t pages, 
 
 /* Adds a unit from an image, with the faults that were put: a disk from a CKD_P370 image, or a tape of `bytes` bytes from an AWSTAPE
  * image (docs/FORMATS.md). The tape has at most 4,294,967,296 bytes (EXCP_BAD_GEOMETRY); EXCP_BAD_IMAGE: they are too few for the
- * image. With EXCP_BAD_IMAGE, the rule that the image breaks, in words, is what excp_copy_out copies. */
+ * image. The reason of EXCP_BAD_IMAGE is the rule that the image breaks. */
 excp_status excp_mount_ckd(excp_site *site, const uint8_t *image, size_t length, const excp_room *room, uint16_t *unit);
 excp_status excp_mount_aws(excp_site *site, const uint8_t *image, size_t length, uint64_t bytes, const excp_room *room, uint16_t *unit);
 
@@ -365,7 +370,7 @@ typedef struct excp_line {
  * than `room`. EXCP_NOTHING_THERE: there is no such line. EXCP_BAD_MEDIUM: the unit is no printer. */
 excp_status excp_printed_line(excp_site *site, uint16_t unit, uint32_t place, excp_line *line, uint8_t *bytes, size_t room);
 
-/* Records and images. A site keeps the bytes that were made last: each of these calls makes them anew, and says how many there are.
+/* Records, images and reasons. A site keeps the bytes that were made last: each of these calls makes them anew, and says how many there are.
  * excp_copy_out copies `length` of them, from the place `from` on (EXCP_NO_ROOM: there are not so many). */
 
 /* What happened at a unit since it was mounted, or since its last checkpoint, and its medium, as lines of JSON (docs/REPORT.md): an

@@ -9,7 +9,7 @@ from typing import Any, Iterator
 
 from . import library
 from .blocks import code_of
-from .errors import Status, error_of
+from .errors import STATUSES_WITH_REASON, Status, error_of
 from .library import Handle, call, message, status_of
 from .values import Answer, Kind, Name
 
@@ -35,6 +35,18 @@ class Calls:
         """Makes a call. Raises the exception of its status."""
         with self.lock:
             call(name, self._site, *values)
+
+    def call_with_reason(self, name: str, *values: Any) -> None:
+        """Makes a call of which the site says in words why it is refused. Raises the exception of
+        its status, with that reason."""
+        with self.lock:
+            status = status_of(name, self._site, *values)
+            if status:
+                raise error_of(status, self._reason(status) or message(status))
+
+    def _reason(self, status: int) -> str:
+        """Why a call was refused, if its status has a reason."""
+        return self.take_made().decode("utf-8") if status in STATUSES_WITH_REASON else ""
 
     def finds(self, name: str, none: Status, *values: Any) -> bool:
         """Makes a call that looks for something. Returns whether it exists: if not, the call has

@@ -40,6 +40,13 @@ class Status(enum.IntEnum):
     IN_ERROR = 29
 
 
+# Those of a mount, an open or an issue whose reason the site says in words.
+STATUSES_WITH_REASON = {
+    Status.BAD_GEOMETRY, Status.BAD_MEDIUM, Status.BAD_IMAGE,
+    *(Status(it) for it in range(Status.BAD_EXTENT, Status.WRONG_DCB + 1)),
+}
+
+
 class ExcpError(Exception):
     """A call that did not return `Status.OK`, and changed nothing. `status` says why; after `serve`
     and `settle` with `NO_MEMORY`, what was done stays done."""
@@ -62,12 +69,12 @@ class NoSite(ExcpError):
 
 
 class BadRequest(ExcpError, ValueError):
-    """The storage holds no request for this DCB: its place, its IOB, its ECB, its channel program
-    or its DCB pointer."""
+    """The storage holds no request for this DCB. The message says which address or number of it is
+    wrong: of its place, its IOB, its ECB, its channel program or its DCB pointer."""
 
 
 class BadMedium(ExcpError, ValueError):
-    """What was given is no medium: a size, a record, a block or a fault."""
+    """What was given is no medium. The message says which size, record, block or fault."""
 
 
 class BadImage(BadMedium):

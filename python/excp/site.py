@@ -9,7 +9,7 @@ from . import library
 from .area import MOST_BYTES, Area
 from .blocks import Address, Csw, code_of
 from .calls import Calls
-from .errors import BadImage, NoPost, Status
+from .errors import NoPost, Status
 from .posts import Post
 from .unit import Dcb, Unit
 from .values import Answer, Fault, Mode, Name, Record, TapeMark
@@ -135,11 +135,9 @@ class Site:
                 for fault in faults:
                     status = fault.unit_status, fault.channel_status, fault.sense
                     calls.call("put_fault", fault.command, *status)
-                calls.call(name, *values, rooms, unit)
-            except BaseException as error:
+                calls.call_with_reason(name, *values, rooms, unit)
+            except BaseException:
                 calls.call("clear_medium")
-                if isinstance(error, BadImage):
-                    raise BadImage(error.status, calls.take_made().decode("utf-8")) from None
                 raise
             self.units.append(Unit(self, unit.value))
             return self.units[-1]
@@ -164,7 +162,7 @@ class Site:
         found, at = ctypes.c_uint64(), area[iob] if isinstance(iob, str) else iob
         storage = area.base, bytes(area)
         with self.calls.lock:
-            self.calls.call("issue", task, unit.number, dcb.number, at, *storage, found)
+            self.calls.call_with_reason("issue", task, unit.number, dcb.number, at, *storage, found)
             name = Name(task, unit.number, found.value)
             self._labels[name] = area.labels
         return name

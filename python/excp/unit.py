@@ -39,7 +39,7 @@ class Unit:
     def open_images(self, method: Method, images: Sequence[bytes]) -> Dcb:
         """As `open`, with the 16 bytes of each extent."""
         dcb = ctypes.c_uint16()
-        self._calls.call("open", self.number, method, b"".join(images), dcb)
+        self._calls.call_with_reason("open", self.number, method, b"".join(images), dcb)
         return Dcb(self, dcb.value)
 
     def dcb(self, number: int) -> Dcb:

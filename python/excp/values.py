@@ -213,8 +213,7 @@ class UnitState:
 
 @dataclass(frozen=True)
 class ActiveRequest:
-    """The active request of a unit. `attempt` is how often its program was started, and `next_ccw`
-    the address of its next CCW, if it runs."""
+    """The active request of a unit. `next_ccw` is where its program goes on, if it runs."""
 
     name: Name
     dcb: int

@@ -524,11 +524,12 @@ class Histories(unittest.TestCase):
 class Mistakes(unittest.TestCase):
     """What calls reject, and that it changes nothing."""
 
-    def rejected(self, status, kind, call):
+    def rejected(self, status, kind, call, reason=None):
+        """A call raises this kind with its reason, or the words of the status."""
         with self.assertRaises(kind) as caught:
             call()
         self.assertEqual((caught.exception.status, type(caught.exception)), (status, kind))
-        self.assertEqual(str(caught.exception), excp.message(status))
+        self.assertEqual(str(caught.exception), reason or excp.message(status))
 
     def test_each_status_has_words(self):
         words = {excp.message(it) for it in Status}
@@ -549,24 +550,36 @@ class Mistakes(unittest.TestCase):
 
             bad = excp.BadRequest
             self.rejected(Status.NO_TASK, excp.ExcpError, issue(task=1))
-            self.rejected(Status.WRONG_DCB, bad, issue(of=disk.dcb(2)))
-            self.rejected(Status.AREA_MISALIGNED, bad, issue(base=0x1004))
-            self.rejected(Status.AREA_TOO_LONG, bad, issue(good + bytes(8192)))
-            self.rejected(Status.AREA_PAST_TOP, bad, issue(base=0xFFFFF8))
-            self.rejected(Status.BAD_IOB, bad, issue(iob=0x1002))
-            self.rejected(Status.BAD_IOB, bad, issue(good[:39]))
-            self.rejected(Status.BAD_ECB, bad, issue(good[:7] + b"\x20" + good[8:]))
-            self.rejected(Status.BAD_PROGRAM, bad, issue(good[:19] + b"\x34" + good[20:]))
+            for status, call, reason in (
+                    (Status.WRONG_DCB, issue(of=disk.dcb(2)), "the IOB names DCB 1, and the call DCB 2"),
+                    (Status.AREA_MISALIGNED, issue(base=0x1004), "the base 001004 of the storage is not a multiple of 8"),
+                    (Status.AREA_TOO_LONG, issue(good + bytes(8192)), f"storage has at most 8,192 bytes, not {len(good) + 8192}"),
+                    (Status.AREA_PAST_TOP, issue(base=0xFFFFF8), "the storage at FFFFF8 ends past 2^24"),
+                    (Status.BAD_IOB, issue(iob=0x1002), "the IOB at 001002 is not on a fullword boundary"),
+                    (Status.BAD_IOB, issue(good[:39]), "the IOB at 001000 does not lie in the storage at 001000"),
+                    (Status.BAD_ECB, issue(good[:7] + b"\x20" + good[8:]), "the ECB at 001020 overlaps the IOB"),
+                    (Status.BAD_PROGRAM, issue(good[:19] + b"\x34" + good[20:]),
+                     "the channel program at 001034 is not on a doubleword boundary")):
+                self.rejected(status, bad, call, reason)
             self.assertEqual((disk.state.in_flight, issue()()), (0, Name(0, 0, 1)))
 
     def test_media(self):
         with Site() as site:
             disk = {"cylinders": 1, "heads": 1, "track_bytes": 40}
             bad = excp.BadMedium
-            self.rejected(Status.BAD_GEOMETRY, bad, lambda: site.disk(**{**disk, "heads": 0}))
-            self.rejected(Status.BAD_GEOMETRY, bad, lambda: site.printer(lines=0, pages=1))
-            self.rejected(Status.BAD_MEDIUM, bad, lambda: site.disk(**disk, records=[Record(0, 0, 1, bytes(17))]))
-            self.rejected(Status.BAD_MEDIUM, bad, lambda: site.tape(items=[b"12345"], length=8))
+            for status, call, reason in (
+                    (Status.BAD_GEOMETRY, lambda: site.disk(**{**disk, "heads": 0}), "a cylinder has at least 1 head"),
+                    (Status.BAD_GEOMETRY, lambda: site.printer(lines=0, pages=1), "a printer has 1 to 100,000 lines, not 0"),
+                    (Status.BAD_MEDIUM, lambda: site.disk(**disk, records=[Record(0, 0, 1, bytes(17))]),
+                     "record 0 does not fit its track, whose records take 41 bytes of 40"),
+                    (Status.BAD_MEDIUM, lambda: site.disk(**disk, records=[Record(0, 0, 1, b""), Record(0, 1, 1, b"")]),
+                     "record 1: its head is 1, and a cylinder has 1"),
+                    (Status.BAD_MEDIUM, lambda: site.tape(items=[TAPE_MARK, b""]), "item 1: a block has 1 to 65,535 bytes, not 0"),
+                    (Status.BAD_MEDIUM, lambda: site.tape(items=[b"12345"], length=8),
+                     "item 0 does not fit the tape, whose items take 9 bytes of 8"),
+                    (Status.BAD_MEDIUM, lambda: site.tape(faults=[Fault(1), Fault(2, unit_status=0x02)]),
+                     "fault 1 has another status than a device shows: unit status 0E, or channel status 08, 04 or 02 without sense")):
+                self.rejected(status, bad, call, reason)
             self.rejected(Status.BAD_NUMBER, excp.BadNumber, lambda: site.disk(**disk, held=0))
             # nothing of these is left over for the next medium
             self.assertEqual(len(site.disk(**disk).records(0, 0)), 1)
@@ -575,9 +588,13 @@ class Mistakes(unittest.TestCase):
         with Site() as site:
             disk, _ = a_disk(site)
             tape = site.tape()
-            wrong = [], TRACK * 17, [Extent(0, 0, 0, 1, 2)], [Extent(0, 0, 0, 0, 2)]
-            for unit, extents in [*((disk, it) for it in wrong), (tape, TRACK)]:
-                self.rejected(Status.BAD_EXTENT, excp.ExcpError, lambda u=unit, e=extents: u.open(extents=e))
+            for unit, extents, reason in (
+                    (disk, [], "a DCB of a disk has 1 to 16 extents, not 0"),
+                    (disk, TRACK * 17, "a DCB of a disk has 1 to 16 extents, not 17"),
+                    (disk, TRACK + [Extent(0, 0, 0, 1, 2)], "extent 1: an end of it is not on the disk (cylinders: 1, heads: 1)"),
+                    (disk, [Extent(0, 0, 0, 0, 2)], "extent 0: it says 2 tracks, and has 1"),
+                    (tape, TRACK, "a DCB of a tape or a printer has no extents")):
+                self.rejected(Status.BAD_EXTENT, excp.ExcpError, lambda u=unit, e=extents: u.open(extents=e), reason)
             self.assertEqual(disk.open(extents=TRACK).number, 2)
 
     def test_names(self):

@@ -3,7 +3,8 @@
  * The calls of a list are made three times. The first time no allocation fails, and after each call all that can be seen of the
  * site is noted. The second and third time each call is made with its first allocation failing, then with its second, and so on
  * until it succeeds. A call that returns EXCP_NO_MEMORY leaves all as it was (but excp_serve and excp_settle, which keep what they
- * did), and the call that succeeds leaves what was noted. In the end no block is left. */
+ * did), and the call that succeeds leaves what was noted. A call that is refused for a reason says it, or nothing if there was no memory
+ * for the words. In the end no block is left. */
 #define _GNU_SOURCE
 #include "images.h"
 #include "seen.h"
@@ -195,13 +196,15 @@ static int call(excp_site *site, int number, written *to, int *kind)
     case 57: return excp_make_image(site, 2, &to->length);
     case 58: return excp_make_image(site, 3, &to->length);
     case 59: return excp_make_image(site, 4, &to->length);
+    case 60: return excp_open(site, 0, EXCP_OUTPUT, NULL, 0, &to->short_number);
+    case 61: return excp_issue(site, 0, 0, 1, BASE + 2, BASE, block, 4, &to->number);
     default: return EXCP_BAD_NUMBER;
     }
 }
 
 /* --- the test */
 
-enum { CALLS = 60 };
+enum { CALLS = 62 };
 
 /* How an attempt ended: the call succeeded, it ran out of memory and left all as it was, or something is wrong. */
 enum { DONE, REFUSED, WRONG };
@@ -213,6 +216,17 @@ static int wrong(int number, unsigned long place, const char *what)
 {
     fprintf(stderr, "out_of_memory: call %d, allocation %lu%s: %s\n", number, place, lasts ? " and all after it" : "", what);
     return WRONG;
+}
+
+/* After a call that is refused for a reason: whether it is there, or nothing if the memory for it failed. */
+static int explained(excp_site *site, int number, unsigned long place)
+{
+    size_t length = 0;
+    int is_full = place == 0 || allocations < place;
+    if (excp_made_length(site, &length) != EXCP_OK || (is_full && length == 0))
+        return wrong(number, place, "no reason");
+    kept_length = 0;
+    return is_full ? DONE : REFUSED;
 }
 
 /* Makes a call with the allocation at a place failing, or none if that is 0. */
@@ -228,6 +242,8 @@ static int attempt(excp_site *site, int number, unsigned long place, written *to
     tried++;
     if (status == EXCP_OK)
         return DONE;
+    if (status == EXCP_BAD_EXTENT || status == EXCP_BAD_IOB)
+        return explained(site, number, place);
     if (status != EXCP_NO_MEMORY || place == 0)
         return wrong(number, place, excp_message((excp_status)status));
     refused++;

@@ -30,6 +30,7 @@ use Rattle.excp_site.specs.declared.refusal.Refusal.TheVariants.{NoMemory}
 use Rattle.excp_site.specs.Serving.{HasSettled, IsServedFor}
 use Rattle.excp_site.specs.declared.served.Served.{Served}
 use Rattle.excp_site.specs.Extents.{extents_in}
+use Rattle.excp_site.specs.Reasons.{LeavesReason}
 use Rattle.excp_site.specs.Refusals.{ExtentsRefused, OpenCallLeaves, OpenCallRefused}
 use Rattle.excp_site.specs.Sites.{AddsUnit, HasPart, IssuesRequest, MakesSite, NewRefused, SiteView, number_of}
 use Rattle.excp_c.specs.Answers.{answer_in_c}
@@ -94,10 +95,10 @@ PutsNoItem s t e = (e ≡ NoMemory) × (t.medium.items.items ≡ s.medium.items.
 abbrev pub PutsNoFault : SiteView → SiteView → Refusal → Type 0
 PutsNoFault s t e = (e ≡ NoMemory) × (t.medium.faults.items ≡ s.medium.faults.items) × OnlyFaults s t
 
--- a DCB is not opened: its extents are none, or the site says why, and what it leaves
+-- a DCB is not opened: its extents are none, or the site says why, and what it leaves; the reason is kept in words
 abbrev pub NotOpened : SiteView → SiteView → ℕ → List ℕ → Refusal → Type 0
-NotOpened s t unit bytes e = (ExtentsRefused bytes e × (t ≡ s))
-    ⊎ (OpenCallRefused s.plain unit (extents_in bytes) e × OpenCallLeaves s.plain unit t.plain e × OnlyPlain s t)
+NotOpened s t unit bytes e = (ExtentsRefused bytes e × LeavesReason s t e)
+    ⊎ ((m : SiteView) × OpenCallRefused s.plain unit (extents_in bytes) e × OpenCallLeaves s.plain unit m.plain e × OnlyPlain s m × LeavesReason m t e)
 
 -- THE EVENTS of a unit
 abbrev pub SiteTakes : ℕ → SiteView → Intake → SiteView → Type 0
@@ -139,9 +140,13 @@ SiteOpens unit (Some method) extents dcb s t = OnBook s.plain unit (λ b c. Open
 abbrev pub Mounts : AnyDevice → ℕ → ℕ → ℕ → SiteView → SiteView → Type 0
 Mounts device in_flight held unit s t = AddsUnit s device None in_flight held unit t × IsEmpty t.medium
 
--- an image was refused, for a reason of which this holds
+-- a call was refused, for a reason of which this holds, and which is kept in words
+abbrev pub RefusedAs : Handle → Handle → ℕ → (SiteView → Refusal → Type 0) → Type 0
+RefusedAs h k status Why = Refused h k status (λ s t e. Why s e × LeavesReason s t e)
+
+-- an image was refused: the rule that it breaks is kept in words, or the reason
 abbrev pub ImageRefusedAs : Handle → Handle → ℕ → (SiteView → Refusal → Type 0) → Type 0
-ImageRefusedAs h k status Why = Refused h k status (λ s t e. Why s e × LeavesMade s t e)
+ImageRefusedAs h k status Why = Refused h k status (λ s t e. (m : SiteView) × Why s e × LeavesMade s m e × LeavesReason m t e)
 
 -- A REQUEST was issued, and its number was written out
 abbrev pub IssuesAs : ℕ → ℕ → ℕ → ℕ → Storage → ℕ → SiteView → SiteView → Type 0

@@ -8,7 +8,7 @@ ghost use Rattle.excp_c.specs.Calls.{KeepsSite, SameSite, TestsSite};
 ghost use Rattle.excp_c.specs.Numbers.{method_from_c};
 
 use crate::handle::Handle;
-use crate::status::{NO_SITE, give, status_in_c};
+use crate::status::{NO_SITE, OK, status_in_c};
 use excp_site::{Refusal, extents};
 use std::alloc::Global;
 use unit_book::ProcessingMethod;
@@ -48,8 +48,21 @@ pub extern "C" fn excp_call_open(
     let Some(method) = method_from_c(method) else {
         return status_in_c(Refusal::BadNumber);
     };
-    match extents(alloc, extent_bytes) {
-        Ok(extents) => give(site.open(unit, method, &extents), dcb),
-        Err(refusal) => status_in_c(refusal),
+    let extents = match extents(alloc, extent_bytes) {
+        Ok(extents) => extents,
+        Err(refusal) => {
+            site.explain_extent_bytes(refusal, extent_bytes.len());
+            return status_in_c(refusal);
+        }
+    };
+    match site.open(unit, method, &extents) {
+        Ok(number) => {
+            *dcb = number;
+            OK
+        }
+        Err(refusal) => {
+            site.explain_extents(refusal, unit, &extents);
+            status_in_c(refusal)
+        }
     }
 }

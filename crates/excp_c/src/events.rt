@@ -8,7 +8,7 @@ ghost use Rattle.excp_site.specs.Refusals.{RunRefused, UnitRefused};
 ghost use Rattle.excp_site.specs.Serving.{HasSettled, ServeRefused, SettleRefused};
 ghost use Rattle.excp_site.specs.Sites.{IssueCallRefused};
 ghost use Rattle.excp_c.specs.Answers.{of_delivery, of_intake, of_interruption, of_running, of_starting};
-ghost use Rattle.excp_c.specs.Done.{SiteDelivers, Did, SiteInterrupts, IssuesAs, Made, OnlyPlain, Refused, SiteRuns, SiteServes, SiteSettles, SiteStarts, SiteTakes};
+ghost use Rattle.excp_c.specs.Done.{SiteDelivers, Did, SiteInterrupts, IssuesAs, Made, OnlyPlain, Refused, RefusedAs, SiteRuns, SiteServes, SiteSettles, SiteStarts, SiteTakes};
 ghost use Rattle.excp_c.specs.Calls.{KeepsSite, SameSite, TestsSite};
 ghost use Rattle.excp_c.specs.Numbers.{end_number};
 
@@ -52,8 +52,9 @@ pub extern "C" fn excp_call_issue(
     ensures site { TestsSite handle.old result }
     ensures keeps { KeepsSite handle.old handle.new }
     ensures done { result ≡ 0 → Did handle.old handle.new (IssuesAs task unit dcb iob (record { base = base; bytes = storage.now }) number.new) }
-    ensures why { result ≢ 0 → result ≢ 3 → Refused handle.old handle.new result (λ s _. IssueCallRefused s.plain task unit dcb iob (record { base = base; bytes = storage.now })) }
-    ensures refused { result ≢ 0 → SameSite handle.old handle.new × (number.new ≡ number.old) }
+    ensures why { result ≢ 0 → result ≢ 3 → RefusedAs handle.old handle.new result (λ s. IssueCallRefused s.plain task unit dcb iob (record { base = base; bytes = storage.now })) }
+    ensures refused { result ≢ 0 → number.new ≡ number.old }
+    ensures none { result ≡ 3 → SameSite handle.old handle.new }
 {
     let Some(site) = handle.site() else {
         return NO_SITE;
@@ -63,7 +64,10 @@ pub extern "C" fn excp_call_issue(
             *number = site.number(unit, name);
             OK
         }
-        Err(refusal) => status_in_c(refusal),
+        Err(refusal) => {
+            site.explain_request(refusal, dcb, iob, base, storage);
+            status_in_c(refusal)
+        }
     }
 }
 

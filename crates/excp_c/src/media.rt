@@ -9,12 +9,12 @@ ghost use Rattle.line_printer.specs.Mount.{opening as opening_printer};
 ghost use Rattle.excp_site.specs.Imaging.{AwsRefused, CkdRefused, MountsAws, MountsCkd};
 ghost use Rattle.excp_site.specs.Media.{IsEmpty, PutsItem, PutsRecord};
 ghost use Rattle.excp_site.specs.Mounting.{DiskRefused, DiskTaken, PrinterRefused, PrinterTaken, TapeRefused, TapeTaken};
-ghost use Rattle.excp_c.specs.Done.{Did, ImageRefusedAs, PutsNoFault, PutsNoItem, PutsNoRecord, Mounts, OnlyFaults, OnlyItems, OnlyMedium, OnlyRecords, Refused};
+ghost use Rattle.excp_c.specs.Done.{Did, ImageRefusedAs, PutsNoFault, PutsNoItem, PutsNoRecord, Mounts, OnlyFaults, OnlyItems, OnlyMedium, OnlyRecords, Refused, RefusedAs};
 ghost use Rattle.excp_c.specs.Numbers.{fault_from_c};
 ghost use Rattle.excp_c.specs.Calls.{KeepsSite, SameSite, TestsSite};
 
 use crate::handle::Handle;
-use crate::status::{NO_SITE, OK, done, give};
+use crate::status::{NO_SITE, OK, done, status_in_c};
 use ckd_disk::Geometry;
 use device_port::Fault;
 use io_images::{SubStatus, UnitStatus};
@@ -144,8 +144,9 @@ pub extern "C" fn excp_call_mount_disk(
     ensures site { TestsSite handle.old result }
     ensures keeps { KeepsSite handle.old handle.new }
     ensures done { result ≡ 0 → Did handle.old handle.new (λ s t. Mounts (AnyDevice.Disk (opening_disk (record { cylinders = cylinders; heads = heads; track_bytes = track_bytes }) s.medium.records.items s.medium.faults.items)) room.now.in_flight room.now.held unit.new s t × DiskTaken s (record { cylinders = cylinders; heads = heads; track_bytes = track_bytes })) }
-    ensures why { result ≢ 0 → result ≢ 3 → Refused handle.old handle.new result (λ s _. DiskRefused s (record { cylinders = cylinders; heads = heads; track_bytes = track_bytes }) room.now.in_flight room.now.held) }
-    ensures refused { result ≢ 0 → SameSite handle.old handle.new × (unit.new ≡ unit.old) }
+    ensures why { result ≢ 0 → result ≢ 3 → RefusedAs handle.old handle.new result (λ s. DiskRefused s (record { cylinders = cylinders; heads = heads; track_bytes = track_bytes }) room.now.in_flight room.now.held) }
+    ensures refused { result ≢ 0 → unit.new ≡ unit.old }
+    ensures none { result ≡ 3 → SameSite handle.old handle.new }
 {
     let Some(site) = handle.site() else {
         return NO_SITE;
@@ -155,7 +156,16 @@ pub extern "C" fn excp_call_mount_disk(
         heads,
         track_bytes,
     };
-    give(site.mount_disk(geometry, room_of(room)), unit)
+    match site.mount_disk(geometry, room_of(room)) {
+        Ok(mounted) => {
+            *unit = mounted;
+            OK
+        }
+        Err(refusal) => {
+            site.explain_disk(refusal, geometry);
+            status_in_c(refusal)
+        }
+    }
 }
 
 /// `excp_mount_tape`.
@@ -169,13 +179,23 @@ pub extern "C" fn excp_call_mount_tape(
     ensures site { TestsSite handle.old result }
     ensures keeps { KeepsSite handle.old handle.new }
     ensures done { result ≡ 0 → Did handle.old handle.new (λ s t. Mounts (AnyDevice.Tape (opening_tape bytes s.medium.items.items s.medium.faults.items)) room.now.in_flight room.now.held unit.new s t × TapeTaken s bytes) }
-    ensures why { result ≢ 0 → result ≢ 3 → Refused handle.old handle.new result (λ s _. TapeRefused s bytes room.now.in_flight room.now.held) }
-    ensures refused { result ≢ 0 → SameSite handle.old handle.new × (unit.new ≡ unit.old) }
+    ensures why { result ≢ 0 → result ≢ 3 → RefusedAs handle.old handle.new result (λ s. TapeRefused s bytes room.now.in_flight room.now.held) }
+    ensures refused { result ≢ 0 → unit.new ≡ unit.old }
+    ensures none { result ≡ 3 → SameSite handle.old handle.new }
 {
     let Some(site) = handle.site() else {
         return NO_SITE;
     };
-    give(site.mount_tape(bytes, room_of(room)), unit)
+    match site.mount_tape(bytes, room_of(room)) {
+        Ok(mounted) => {
+            *unit = mounted;
+            OK
+        }
+        Err(refusal) => {
+            site.explain_tape(refusal, bytes);
+            status_in_c(refusal)
+        }
+    }
 }
 
 /// `excp_mount_printer`.
@@ -190,13 +210,23 @@ pub extern "C" fn excp_call_mount_printer(
     ensures site { TestsSite handle.old result }
     ensures keeps { KeepsSite handle.old handle.new }
     ensures done { result ≡ 0 → Did handle.old handle.new (λ s t. Mounts (AnyDevice.Printer (opening_printer lines pages s.medium.faults.items)) room.now.in_flight room.now.held unit.new s t × PrinterTaken s lines pages) }
-    ensures why { result ≢ 0 → result ≢ 3 → Refused handle.old handle.new result (λ s _. PrinterRefused s lines pages room.now.in_flight room.now.held) }
-    ensures refused { result ≢ 0 → SameSite handle.old handle.new × (unit.new ≡ unit.old) }
+    ensures why { result ≢ 0 → result ≢ 3 → RefusedAs handle.old handle.new result (λ s. PrinterRefused s lines pages room.now.in_flight room.now.held) }
+    ensures refused { result ≢ 0 → unit.new ≡ unit.old }
+    ensures none { result ≡ 3 → SameSite handle.old handle.new }
 {
     let Some(site) = handle.site() else {
         return NO_SITE;
     };
-    give(site.mount_printer(lines, pages, room_of(room)), unit)
+    match site.mount_printer(lines, pages, room_of(room)) {
+        Ok(mounted) => {
+            *unit = mounted;
+            OK
+        }
+        Err(refusal) => {
+            site.explain_printer(refusal, lines, pages);
+            status_in_c(refusal)
+        }
+    }
 }
 
 /// `excp_mount_ckd`.
@@ -217,7 +247,16 @@ pub extern "C" fn excp_call_mount_ckd(
     let Some(site) = handle.site() else {
         return NO_SITE;
     };
-    give(site.mount_ckd(image, room_of(room)), unit)
+    match site.mount_ckd(image, room_of(room)) {
+        Ok(mounted) => {
+            *unit = mounted;
+            OK
+        }
+        Err(refusal) => {
+            site.explain_image(refusal, 0);
+            status_in_c(refusal)
+        }
+    }
 }
 
 /// `excp_mount_aws`.
@@ -239,5 +278,14 @@ pub extern "C" fn excp_call_mount_aws(
     let Some(site) = handle.site() else {
         return NO_SITE;
     };
-    give(site.mount_aws(image, bytes, room_of(room)), unit)
+    match site.mount_aws(image, bytes, room_of(room)) {
+        Ok(mounted) => {
+            *unit = mounted;
+            OK
+        }
+        Err(refusal) => {
+            site.explain_image(refusal, bytes);
+            status_in_c(refusal)
+        }
+    }
 }

@@ -8,3 +8,4 @@ pub mod Serving
 pub mod Checkpoints
 pub mod Looks
 pub mod Imaging
+pub mod Reasons

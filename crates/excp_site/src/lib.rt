@@ -10,6 +10,7 @@
 
 mod deb;
 mod medium;
+mod reason;
 mod refusal;
 mod served;
 mod site;
@@ -17,6 +18,7 @@ mod state;
 
 pub use deb::extents;
 pub use medium::Medium;
+pub use reason::Reason;
 pub use refusal::Refusal;
 pub use served::{Served, ServedEnd};
 pub use site::{Room, Site};

@@ -7,6 +7,7 @@ mod long_use;
 mod media;
 mod posts;
 mod readers;
+mod reasons;
 mod serving;
 mod texts;
 

@@ -185,6 +185,83 @@ static void tell_statuses(void)
     expect(strcmp(excp_version(), VERSION) == 0, "the version is another");
 }
 
+/* The site says this of the last call. */
+static void says(const char *reason)
+{
+    char text[200] = "";
+    GIVES(EXCP_OK, excp_made_length(&site, &length));
+    expect(length < sizeof text, "a reason is too long");
+    GIVES(EXCP_OK, excp_copy_out(&site, 0, (uint8_t *)text, length));
+    if (strcmp(text, reason) != 0) {
+        fprintf(stderr, "\"%s\" in place of \"%s\"\n", text, reason);
+        faults++;
+    }
+}
+
+/* Why mounts are refused: by c/excp.h, "Media and units". */
+static void tell_media(void)
+{
+    static const uint8_t many[300];
+    GIVES(EXCP_BAD_GEOMETRY, excp_mount_disk(&site, 1, 1, 15, &room, &number16));
+    says("a track has 16 to 65,535 bytes, not 15");
+    GIVES(EXCP_BAD_GEOMETRY, excp_mount_tape(&site, 3, &room, &number16));
+    says("a tape has 4 to 16,777,216 bytes, not 3");
+    GIVES(EXCP_BAD_GEOMETRY, excp_mount_printer(&site, 1, 10001, &room, &number16));
+    says("a printer has 1 to 10,000 pages, not 10001");
+    GIVES(EXCP_OK, excp_put_record(&site, 0, 0, 1, NULL, 0, bytes, 4));
+    GIVES(EXCP_OK, excp_put_record(&site, 0, 0, 2, many, 256, bytes, 4));
+    GIVES(EXCP_BAD_MEDIUM, excp_mount_disk(&site, 1, 1, 1000, &room, &number16));
+    says("record 1: a key has at most 255 bytes, not 256");
+    GIVES(EXCP_BAD_MEDIUM, excp_mount_tape(&site, 100, &room, &number16));
+    says("records of a disk were put, or items of a tape, which the device does not take");
+    GIVES(EXCP_OK, excp_clear_medium(&site));
+    GIVES(EXCP_OK, excp_put_block(&site, bytes, 4));
+    GIVES(EXCP_OK, excp_put_tape_mark(&site));
+    GIVES(EXCP_OK, excp_put_block(&site, bytes, 3));
+    GIVES(EXCP_BAD_MEDIUM, excp_mount_tape(&site, 18, &room, &number16));
+    says("item 2 does not fit the tape, whose items take 19 bytes of 18");
+    GIVES(EXCP_OK, excp_put_fault(&site, 2, 0x0E, 0, 0));
+    GIVES(EXCP_OK, excp_put_fault(&site, 2, 0x0E, 0, 0));
+    GIVES(EXCP_BAD_MEDIUM, excp_mount_tape(&site, 19, &room, &number16));
+    says("fault 1 has no command after that of the fault before it: commands count from 1 and rise");
+    GIVES(EXCP_OK, excp_clear_medium(&site));
+}
+
+/* Why a DCB is not opened, and why no request is issued, at a disk of 2 cylinders of 3 heads. */
+static void tell_requests(void)
+{
+    uint8_t extent[16] = { [11] = 1, [13] = 2, [15] = 9 }, storage[64] = { 0 };
+    GIVES(EXCP_OK, excp_mount_disk(&site, 2, 3, 100, &room, &number16));
+    GIVES(EXCP_BAD_EXTENT, excp_open(&site, 0, EXCP_OUTPUT, extent, 15, &number16));
+    says("extents have 16 bytes each, and these have 15 in all");
+    GIVES(EXCP_BAD_EXTENT, excp_open(&site, 0, EXCP_OUTPUT, extent, 0, &number16));
+    says("a DCB of a disk has 1 to 16 extents, not 0");
+    GIVES(EXCP_BAD_EXTENT, excp_open(&site, 0, EXCP_OUTPUT, extent, 16, &number16));
+    says("extent 0: it says 9 tracks, and has 6");
+    extent[11] = 2;
+    GIVES(EXCP_BAD_EXTENT, excp_open(&site, 0, EXCP_OUTPUT, extent, 16, &number16));
+    says("extent 0: an end of it is not on the disk (cylinders: 2, heads: 3)");
+    storage[6] = 0x10;
+    storage[7] = 0x2A;
+    GIVES(EXCP_AREA_MISALIGNED, excp_issue(&site, 0, 0, 1, 0x1000, 0x1004, storage, sizeof storage, &number64));
+    says("the base 001004 of the storage is not a multiple of 8");
+    GIVES(EXCP_BAD_IOB, excp_issue(&site, 0, 0, 1, 0x1020, 0x1000, storage, sizeof storage, &number64));
+    says("the IOB at 001020 does not lie in the storage at 001000");
+    GIVES(EXCP_BAD_ECB, excp_issue(&site, 0, 0, 1, 0x1000, 0x1000, storage, sizeof storage, &number64));
+    says("the ECB at 00102A is not on a fullword boundary");
+    storage[7] = 0x28;
+    GIVES(EXCP_BAD_PROGRAM, excp_issue(&site, 0, 0, 1, 0x1000, 0x1000, storage, sizeof storage, &number64));
+    says("the channel program at 000000 does not lie in the storage at 001000");
+    storage[18] = 0x10;
+    storage[19] = 0x30;
+    GIVES(EXCP_WRONG_DCB, excp_issue(&site, 0, 0, 1, 0x1000, 0x1000, storage, sizeof storage, &number64));
+    says("the IOB names DCB 0, and the call DCB 1");
+    GIVES(EXCP_NO_TASK, excp_issue(&site, 1, 0, 1, 0x1000, 0x1000, storage, sizeof storage, &number64));
+    says("the IOB names DCB 0, and the call DCB 1");
+    GIVES(EXCP_OK, excp_drop_made(&site));
+    says("");
+}
+
 int main(void)
 {
     refuse_null();
@@ -194,6 +271,8 @@ int main(void)
     GIVES(EXCP_BAD_NUMBER, excp_site_new(&site, 1, 0));
     GIVES(EXCP_OK, excp_site_new(&site, 1, 1));
     GIVES(EXCP_SITE_IN_USE, excp_site_new(&site, 1, 1));
+    tell_media();
+    tell_requests();
     GIVES(EXCP_OK, excp_site_free(&site));
     refuse_all(EXCP_NO_SITE);
     tell_statuses();
