@@ -212,6 +212,31 @@ static inline void excp_store_extent(uint8_t *to, const excp_extent *extent)
     excp_store_number(to + 14, 2, extent->tracks);
 }
 
+/* Bytes in which the storage of a post differs from the storage as issued. */
+typedef struct excp_change {
+    size_t offset; /* of the first of them, in the storage */
+    size_t length;
+} excp_change;
+
+/* Finds the next change after one, or the first after { 0, 0 }. Returns 1, or 0 if there is none. The site keeps no issued bytes for
+ * that, so pass both. To copy back into a memory only what a request changed:
+ *
+ *     excp_change change = { 0, 0 };
+ *     while (excp_next_change(issued, storage, post.length, &change))
+ *         memcpy(memory + post.base + change.offset, storage + change.offset, change.length);
+ */
+static inline int excp_next_change(const uint8_t *issued, const uint8_t *storage, size_t length, excp_change *change)
+{
+    size_t at = change->offset + change->length;
+    while (at < length && issued[at] == storage[at])
+        at++;
+    change->offset = at;
+    while (at < length && issued[at] != storage[at])
+        at++;
+    change->length = at - change->offset;
+    return change->length > 0;
+}
+
 #ifdef __cplusplus
 }
 #endif

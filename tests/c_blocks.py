@@ -2,7 +2,7 @@
 
 The constants are compared with the tables of python/excp, and those that crates have with the crates. A C program stores blocks
 with other numbers in each field; the package makes the same blocks. The bytes of a word of indirect addresses are those of
-docs/SPECIFICATION.md, rule 4.10.
+docs/SPECIFICATION.md, rule 4.10. The changes of a storage are worked by hand.
 """
 
 import re
@@ -69,6 +69,11 @@ STORES = (
         "excp_extent it = { 0x0102, 0x0304, 0x0506, 0x0708, 0x090A }; excp_store_extent(to, &it)",
         Extent(0x0102, 0x0304, 0x0506, 0x0708, 0x090A).to_bytes(),
     ),
+    # offsets and lengths of the changes: of bytes 0 and 1, of byte 4, and of bytes 6 and 7, the last ones
+    ('excp_change it = { 0, 0 }; while (excp_next_change(BYTES("ABCDEFGH"), BYTES("abCDeFgh"), 8, &it)) { *to++ = (uint8_t)it.offset;'
+     " *to++ = (uint8_t)it.length; }", bytes([0, 2, 4, 1, 6, 2])),
+    ('excp_change it = { 0, 0 }; to[0] = (uint8_t)excp_next_change(BYTES("ABC"), BYTES("ABCD"), 3, &it);', bytes([0])),
+    ('excp_change it = { 0, 0 }; to[0] = (uint8_t)excp_next_change(NULL, NULL, 0, &it);', bytes([0])),
 )
 
 
@@ -83,9 +88,11 @@ static void print(const uint8_t *bytes)
     puts("");
 }
 
+#define BYTES(text) ((const uint8_t *)(text))
+
 int main(void)
 {
-    uint8_t to[64];
+    uint8_t room[64];
 CALLS    return 0;
 }
 """
@@ -93,7 +100,7 @@ CALLS    return 0;
 
 def program():
     """The program with its calls."""
-    return PROGRAM.replace("CALLS", "".join(f"    {{ memset(to, 0xA5, sizeof to); {call}; print(to); }}\n" for call, _ in STORES))
+    return PROGRAM.replace("CALLS", "".join(f"    {{ uint8_t *to = room; memset(room, 0xA5, sizeof room); {call}; print(room); }}\n" for call, _ in STORES))
 
 
 def printed():

@@ -20,7 +20,7 @@ if TYPE_CHECKING:
         NoDcb, NoImage, NoMemory, NoNumber, NoPost, NoSite, NotIdle, Status,
     )
     from .library import is_proved, message, version
-    from .posts import Post
+    from .posts import Change, Post
     from .site import Site
     from .unit import Dcb, Unit
     from .values import (
@@ -38,7 +38,7 @@ _NAMES = {
     "errors": "BadImage BadMedium BadNumber BadRequest ExcpError Full InError LibraryNotFound "
     "NoDcb NoImage NoMemory NoNumber NoPost NoSite NotIdle Status",
     "library": "is_proved message version",
-    "posts": "Post",
+    "posts": "Change Post",
     "site": "Site",
     "unit": "Dcb Unit",
     "values": "TAPE_MARK Active ActiveRequest Answer DcbPhase DcbState Device Entry EntryKind "
@@ -49,11 +49,11 @@ _MODULES = {name: module for module, names in _NAMES.items() for name in names.s
 
 __all__ = [
     "TAPE_MARK", "Active", "ActiveRequest", "Answer", "Area", "BadImage", "BadMedium", "BadNumber",
-    "BadRequest", "Ccw", "Code", "Csw", "Dcb", "DcbPhase", "DcbState", "Device", "Entry",
+    "BadRequest", "Ccw", "Change", "Code", "Csw", "Dcb", "DcbPhase", "DcbState", "Device", "Entry",
     "EntryKind", "ExcpError", "Extent", "Fault", "Flag", "Full", "InError", "Iob", "Kind",
-    "LibraryNotFound", "Line", "Method", "Mode", "Name", "NoDcb", "NoImage", "NoMemory",
-    "NoNumber", "NoPost", "NoSite", "NotIdle", "Op", "Place", "Post", "Record", "Seek", "Served",
-    "ServedEnd", "Site", "Status", "Unit", "UnitState", "is_proved", "message", "version",
+    "LibraryNotFound", "Line", "Method", "Mode", "Name", "NoDcb", "NoImage", "NoMemory", "NoNumber",
+    "NoPost", "NoSite", "NotIdle", "Op", "Place", "Post", "Record", "Seek", "Served", "ServedEnd",
+    "Site", "Status", "Unit", "UnitState", "is_proved", "message", "version",
 ]
 
 

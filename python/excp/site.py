@@ -32,8 +32,8 @@ class Site:
         self.tasks = tasks
         self.units: List[Unit] = []
         self.calls = Calls(tasks, post_room)
-        # of each request that was not collected, the labels of its area
-        self._labels: Dict[Name, Dict[str, int]] = {}
+        # of each request that was not collected, the labels of its area, and its bytes
+        self._areas: Dict[Name, Tuple[Dict[str, int], Optional[bytes]]] = {}
         # what the storage of a post is copied to
         self._storage = ctypes.create_string_buffer(MOST_BYTES)
 
@@ -164,7 +164,7 @@ class Site:
         with self.calls.lock:
             self.calls.call_with_reason("issue", task, unit.number, dcb.number, at, *storage, found)
             name = Name(task, unit.number, found.value)
-            self._labels[name] = area.labels
+            self._areas[name] = area.labels, storage[1]
         return name
 
     def next_post(self, task: int) -> Optional[Post]:
@@ -175,7 +175,7 @@ class Site:
                 return None
             storage = ctypes.string_at(self._storage, post.length)
             name = Name(post.task, post.unit, post.number)
-            labels = self._labels.pop(name, {})
+            labels, issued = self._areas.pop(name, ({}, None))
         return Post(
             name=name,
             dcb=post.dcb,
@@ -185,6 +185,7 @@ class Site:
             base=post.base,
             storage=storage,
             labels=labels,
+            issued=issued,
         )
 
     def post(self, task: int) -> Post:

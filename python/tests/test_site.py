@@ -1,6 +1,7 @@
 """Sites, units and events, by docs/MANUAL.md, docs/SPECIFICATION.md and c/excp.h."""
 
 import ctypes
+import dataclasses
 import json
 import re
 import struct
@@ -8,7 +9,7 @@ import threading
 import unittest
 
 import excp
-from excp import (TAPE_MARK, Active, ActiveRequest, Answer, Area, Ccw, Code, DcbPhase, Device, EntryKind, Extent, Fault, Flag, Kind,
+from excp import (TAPE_MARK, Active, ActiveRequest, Answer, Area, Ccw, Change, Code, DcbPhase, Device, EntryKind, Extent, Fault, Flag, Kind,
                   Line, Method, Mode, Name, Op, Place, Record, Seek, ServedEnd, Site, Status)
 
 TRACK = [Extent.between((0, 0), (0, 0), 1)]
@@ -177,6 +178,40 @@ class Readers(unittest.TestCase):
                 length = ctypes.c_size_t(1)
                 site.calls.call("made_length", length)
                 self.assertEqual(length.value, 0)
+
+
+class Changes(unittest.TestCase):
+    """What differs from the storage as issued."""
+
+    def test_of_a_read(self):
+        """A read of the 4 bytes of a record, of which the buffer had the last 2: sense, code, CSW, ECB and these changed."""
+        with Site() as site:
+            disk, dcb = a_disk(site)
+            area = read_record()
+            storage = bytearray(bytes(area))
+            at = area["BUFFER"] - area.base
+            storage[at : at + 4] = b"\0\0\xC3\xC4"
+            site.issue(0, dcb, Area(area.base, bytes(storage), area.labels))
+            disk.serve()
+            post = site.post(0)
+            # IOBECBCC, the CSW with its address 001048 and status 0C00, and the code in the ECB
+            due = {area["IOB"] + 4: b"\x7F", area["IOB"] + 10: b"\x10\x48\x0C", area["ECB"]: b"\x7F", area["BUFFER"]: b"\xC1\xC2"}
+            self.assertEqual(post.changes(), [Change(*it) for it in due.items()])
+            memory = bytearray(storage)
+            for address, data in post.changes():
+                memory[address - post.base : address - post.base + len(data)] = data
+            self.assertEqual(bytes(memory), post.storage)
+
+    def test_of_a_post_of_no_issue(self):
+        with Site() as site:
+            disk, dcb = a_disk(site)
+            site.issue(0, dcb, read_record())
+            disk.serve()
+            found = site.post(0)
+        same = dataclasses.replace(found, issued=found.storage)
+        self.assertEqual((same, same.changes()), (found, []))
+        with self.assertRaisesRegex(ValueError, "does not have its storage as issued"):
+            dataclasses.replace(found, issued=None).changes()
 
 
 class Requests(unittest.TestCase):

@@ -149,7 +149,7 @@ pub(crate) fn of_items(items: &[InitialItem]) -> Option<Reason> {
     None
 }
 
-/// Why no printer has so many lines and pages.
+/// Why no printer has this number of lines and pages.
 pub(crate) fn of_paper(lines: u64, pages: u64) -> Option<Reason> {
     Some(match paper_refusal(lines, pages)? {
         PaperRefusal::Lines => Reason::Lines(lines),
@@ -157,7 +157,7 @@ pub(crate) fn of_paper(lines: u64, pages: u64) -> Option<Reason> {
     })
 }
 
-/// Why a device with these cylinders and heads does not take so many extents.
+/// Why a device with these cylinders and heads does not take this number of extents.
 pub(crate) fn of_extents(
     refusal: ExtentsRefusal,
     count: usize,

@@ -78,7 +78,7 @@ impl Site {
         }
     }
 
-    /// Explains why so many bytes are no extents.
+    /// Explains why bytes of this length are no extents.
     pub fn explain_extent_bytes(&mut self, refusal: Refusal, len: usize)
         ensures { LeavesReason self.old self.new refusal }
     {
@@ -132,7 +132,7 @@ impl Site {
         }
     }
 
-    /// Why what was put is no tape of so many bytes.
+    /// Why what was put is no tape of this size.
     fn tape_reason(&self, bytes: u64) -> Option<Reason> {
         let medium = &self.medium;
         if !medium.records.is_empty() {
