@@ -19,6 +19,7 @@ if TYPE_CHECKING:
         BadImage, BadMedium, BadNumber, BadRequest, ExcpError, Full, InError, LibraryNotFound,
         NoDcb, NoImage, NoMemory, NoNumber, NoPost, NoSite, NotIdle, Status,
     )
+    from .judging import LoggedEvent, Verdict, judge
     from .library import is_proved, message, version
     from .posts import Change, Post
     from .site import Site
@@ -37,6 +38,7 @@ _NAMES = {
     "blocks": "Ccw Code Csw Extent Flag Iob Op Seek",
     "errors": "BadImage BadMedium BadNumber BadRequest ExcpError Full InError LibraryNotFound "
     "NoDcb NoImage NoMemory NoNumber NoPost NoSite NotIdle Status",
+    "judging": "LoggedEvent Verdict judge",
     "library": "is_proved message version",
     "posts": "Change Post",
     "site": "Site",
@@ -51,9 +53,10 @@ __all__ = [
     "TAPE_MARK", "Active", "ActiveRequest", "Answer", "Area", "BadImage", "BadMedium", "BadNumber",
     "BadRequest", "Ccw", "Change", "Code", "Csw", "Dcb", "DcbPhase", "DcbState", "Device", "Entry",
     "EntryKind", "ExcpError", "Extent", "Fault", "Flag", "Full", "InError", "Iob", "Kind",
-    "LibraryNotFound", "Line", "Method", "Mode", "Name", "NoDcb", "NoImage", "NoMemory", "NoNumber",
-    "NoPost", "NoSite", "NotIdle", "Op", "Place", "Post", "Record", "Seek", "Served", "ServedEnd",
-    "Site", "Status", "Unit", "UnitState", "is_proved", "message", "version",
+    "LibraryNotFound", "Line", "LoggedEvent", "Method", "Mode", "Name", "NoDcb", "NoImage",
+    "NoMemory", "NoNumber", "NoPost", "NoSite", "NotIdle", "Op", "Place", "Post", "Record", "Seek",
+    "Served", "ServedEnd", "Site", "Status", "Unit", "UnitState", "Verdict", "is_proved", "judge",
+    "message", "version",
 ]
 
 
