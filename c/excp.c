@@ -51,6 +51,11 @@ uint32_t excp_call_make_image(SITE, uint16_t unit, size_t *length);
 uint32_t excp_call_made_length(SITE, size_t *length);
 uint32_t excp_call_drop_made(SITE);
 uint32_t excp_call_copy_out(SITE, size_t from, ROOM(bytes));
+uint32_t excp_call_channel_new(SITE, uint16_t unit, uint32_t *channel);
+uint32_t excp_call_channel_start(SITE, uint32_t channel, uint32_t start, uint16_t cylinder, uint16_t head, uint8_t file_mask, uint32_t *code);
+uint32_t excp_call_channel_run(SITE, uint32_t channel, uint32_t max_commands, uint32_t base, ROOM(storage), excp_channel_ran *ran);
+uint32_t excp_call_channel_test(SITE, uint32_t channel, excp_channel_status *status);
+uint32_t excp_call_channel_halt(SITE, uint32_t channel, uint32_t *code);
 uint32_t excp_call_checkpoint(SITE, uint16_t unit);
 
 /* A function whose pointers must not be null, and what it returns if none is. */
@@ -170,5 +175,13 @@ CALL(make_image, (SITE, uint16_t unit, size_t *length), site && length, site, un
 CALL(made_length, (SITE, size_t *length), site && length, site, length)
 CALL(drop_made, (SITE), site, site)
 CALL(copy_out, (SITE, size_t from, uint8_t *bytes, size_t length), site && IS_SLICE(bytes, length), site, from, BYTES(bytes, length))
+
+CALL(channel_new, (SITE, uint16_t unit, uint32_t *channel), site && channel, site, unit, channel)
+CALL(channel_start, (SITE, uint32_t channel, uint32_t start, uint16_t cylinder, uint16_t head, uint8_t file_mask, uint32_t *code),
+     site && code, site, channel, start, cylinder, head, file_mask, code)
+CALL(channel_run, (SITE, uint32_t channel, uint32_t max_commands, uint32_t base, uint8_t *storage, size_t length, excp_channel_ran *ran),
+     site && IS_SLICE(storage, length) && ran, site, channel, max_commands, base, BYTES(storage, length), ran)
+CALL(channel_test, (SITE, uint32_t channel, excp_channel_status *status), site && status, site, channel, status)
+CALL(channel_halt, (SITE, uint32_t channel, uint32_t *code), site && code, site, channel, code)
 
 CALL(checkpoint, (SITE, uint16_t unit), site, site, unit)

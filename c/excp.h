@@ -389,6 +389,43 @@ excp_status excp_drop_made(excp_site *site);
 excp_status excp_made_length(excp_site *site, size_t *length);
 excp_status excp_copy_out(excp_site *site, size_t from, uint8_t *bytes, size_t length);
 
+/* ---- The channel alone ------------------------------------------------------------------------------------------------ */
+
+/* For an emulator that has a supervisor of its own: START, TEST and HALT SUBCHANNEL on a copy of the device of a unit, as it is now.
+ * Channels count from 0; their devices are apart from the units, and are freed with the site. EXCP_NOTHING_THERE: there is no such
+ * channel. Condition codes are those of Principles of Operation, chapter 14. */
+excp_status excp_channel_new(excp_site *site, uint16_t unit, uint32_t *channel);
+
+/* START SUBCHANNEL: seeks a disk to this track (EXCP_BAD_NUMBER: it has none), sets its file mask, and starts the program at an
+ * address. `code`: 0 started, 1 status pending, 2 a program runs. */
+excp_status excp_channel_start(excp_site *site, uint32_t channel, uint32_t start, uint16_t cylinder, uint16_t head, uint8_t file_mask,
+                               uint32_t *code);
+
+typedef struct excp_channel_ran {
+    uint32_t commands; /* that were done */
+    uint32_t pending;  /* 1 if a status is pending */
+} excp_channel_ran;
+
+/* The program runs for at most `max_commands` commands, at least 1, on storage that lies at `base`, and changes it. If none runs, no
+ * command is done. Give each run of a program the storage as the run before left it. */
+excp_status excp_channel_run(excp_site *site, uint32_t channel, uint32_t max_commands, uint32_t base, uint8_t *storage, size_t length,
+                             excp_channel_ran *ran);
+
+typedef struct excp_channel_status {
+    uint32_t address;       /* of the CSW */
+    uint16_t residual;      /* of the CSW */
+    uint16_t sense;         /* sense bytes 0 and 1 */
+    uint8_t code;           /* the condition code: 0 stored, 1 no status is pending, and the rest is 0 */
+    uint8_t unit_status;    /* of the CSW */
+    uint8_t channel_status; /* of the CSW */
+} excp_channel_status;
+
+/* TEST SUBCHANNEL: stores the status that is pending, and clears it. */
+excp_status excp_channel_test(excp_site *site, uint32_t channel, excp_channel_status *status);
+
+/* HALT SUBCHANNEL: `code` is 0 if a program that ran, or the idle subchannel, has a status pending now, and 1 if it had before. */
+excp_status excp_channel_halt(excp_site *site, uint32_t channel, uint32_t *code);
+
 /* ---- Long use -------------------------------------------------------------------------------------------------------- */
 
 /* Forgets what happened at an idle unit, so that its memory does not grow with each request. The device, its medium, its image and

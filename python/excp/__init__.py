@@ -15,6 +15,7 @@ from typing import TYPE_CHECKING
 if TYPE_CHECKING:
     from .area import Area
     from .blocks import Ccw, Code, Csw, Extent, Flag, Iob, Op, Seek
+    from .channels import Channel, ChannelRun, ChannelStatus
     from .errors import (
         BadImage, BadMedium, BadNumber, BadRequest, ExcpError, Full, InError, LibraryNotFound,
         NoDcb, NoImage, NoMemory, NoNumber, NoPost, NoSite, NotIdle, Status,
@@ -36,6 +37,7 @@ __version__ = "1.1"
 _NAMES = {
     "area": "Area",
     "blocks": "Ccw Code Csw Extent Flag Iob Op Seek",
+    "channels": "Channel ChannelRun ChannelStatus",
     "errors": "BadImage BadMedium BadNumber BadRequest ExcpError Full InError LibraryNotFound "
     "NoDcb NoImage NoMemory NoNumber NoPost NoSite NotIdle Status",
     "judging": "LoggedEvent Verdict judge",
@@ -51,12 +53,12 @@ _MODULES = {name: module for module, names in _NAMES.items() for name in names.s
 
 __all__ = [
     "TAPE_MARK", "Active", "ActiveRequest", "Answer", "Area", "BadImage", "BadMedium", "BadNumber",
-    "BadRequest", "Ccw", "Change", "Code", "Csw", "Dcb", "DcbPhase", "DcbState", "Device", "Entry",
-    "EntryKind", "ExcpError", "Extent", "Fault", "Flag", "Full", "InError", "Iob", "Kind",
-    "LibraryNotFound", "Line", "LoggedEvent", "Method", "Mode", "Name", "NoDcb", "NoImage",
-    "NoMemory", "NoNumber", "NoPost", "NoSite", "NotIdle", "Op", "Place", "Post", "Record", "Seek",
-    "Served", "ServedEnd", "Site", "Status", "Unit", "UnitState", "Verdict", "is_proved", "judge",
-    "message", "version",
+    "BadRequest", "Ccw", "Change", "Channel", "ChannelRun", "ChannelStatus", "Code", "Csw", "Dcb",
+    "DcbPhase", "DcbState", "Device", "Entry", "EntryKind", "ExcpError", "Extent", "Fault", "Flag",
+    "Full", "InError", "Iob", "Kind", "LibraryNotFound", "Line", "LoggedEvent", "Method", "Mode",
+    "Name", "NoDcb", "NoImage", "NoMemory", "NoNumber", "NoPost", "NoSite", "NotIdle", "Op",
+    "Place", "Post", "Record", "Seek", "Served", "ServedEnd", "Site", "Status", "Unit", "UnitState",
+    "Verdict", "is_proved", "judge", "message", "version",
 ]
 
 

@@ -99,6 +99,18 @@ class Line(Structure):
     _fields_ = [(it, c_uint16) for it in ("page", "line", "length")]
 
 
+class ChannelRan(Structure):
+    _fields_ = [(it, c_uint32) for it in ("commands", "pending")]
+
+
+class ChannelStatus(Structure):
+    _fields_ = [
+        ("address", c_uint32),
+        *((it, c_uint16) for it in ("residual", "sense")),
+        *((it, c_uint8) for it in ("code", "unit_status", "channel_status")),
+    ]
+
+
 # The numbers that calls take, and the largest of each.
 NUMBERS = {
     "u8": (c_uint8, 2**8 - 1),
@@ -152,6 +164,11 @@ CALLS = {
     "drop_made": "",
     "made_length": "ref",
     "copy_out": "size buffer",
+    "channel_new": "u16 ref",
+    "channel_start": "u32 u32 u16 u16 u8 ref",
+    "channel_run": "u32 u32 u32 buffer ref",
+    "channel_test": "u32 ref",
+    "channel_halt": "u32 ref",
     "checkpoint": "u16",
 }
 

@@ -29,6 +29,8 @@ STRUCTURES = {
     "excp_record": library.Record,
     "excp_item": library.Item,
     "excp_line": library.Line,
+    "excp_channel_ran": library.ChannelRan,
+    "excp_channel_status": library.ChannelStatus,
 }
 
 # The parameters in C of each word of CALLS.

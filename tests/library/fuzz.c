@@ -116,6 +116,9 @@ typedef struct {
     excp_record record;
     excp_item item;
     excp_line line;
+    uint32_t code;
+    excp_channel_ran ran;
+    excp_channel_status status;
     uint8_t bytes[8300];
 } written;
 
@@ -233,6 +236,29 @@ static excp_status issue(excp_site *site, written *to)
     return status;
 }
 
+/* A call of the channel alone. */
+static excp_status use_channel(excp_site *site, written *to)
+{
+    uint32_t channel = number(3), base = rarely() ? number(0x2000) : 0x1000;
+    block storage = storage_of(base, 1);
+    excp_status status;
+    switch (chance(5)) {
+    case 0: status = excp_channel_new(site, (uint16_t)number(4), pointer(&to->code)); break;
+    case 1:
+        status = excp_channel_start(site, channel, 0x1000 + 8 * number(10), (uint16_t)number(2), (uint16_t)number(2),
+                                    (uint8_t)chance(256), pointer(&to->code));
+        break;
+    case 2:
+        status = excp_channel_run(site, channel, number(70), base, bytes_at(storage.bytes, storage.length),
+                                  storage.length, pointer(&to->ran));
+        break;
+    case 3: status = excp_channel_test(site, channel, pointer(&to->status)); break;
+    default: status = excp_channel_halt(site, channel, pointer(&to->code));
+    }
+    free(storage.bytes);
+    return status;
+}
+
 /* Makes one call. */
 static excp_status made_call(excp_site *site, written *to)
 {
@@ -240,7 +266,7 @@ static excp_status made_call(excp_site *site, written *to)
     uint8_t mode = (uint8_t)(rarely() ? chance(256) : chance(2));
     uint32_t most = number(70), place = number(5);
     size_t room = rarely() ? sizeof to->bytes : chance(400), from = rarely() ? SIZE_MAX - chance(9) : chance(200);
-    switch (chance(41)) {
+    switch (chance(42)) {
     case 0: case 1: case 2: case 3: return put_medium(site);
     case 4: case 5: return mount(site, to);
     case 6: case 7: return open_dcb(site, to);
@@ -273,6 +299,7 @@ static excp_status made_call(excp_site *site, written *to)
     case 38:
         return chance(2) ? excp_look_active(site, unit, pointer(&to->active)) : excp_look_place(site, unit, pointer(&to->place));
     case 39: return excp_drop_made(site);
+    case 40: return use_channel(site, to);
     default: return chance(2) ? excp_copy_out(site, from, bytes_at(to->bytes, room), room) : excp_checkpoint(site, unit);
     }
 }

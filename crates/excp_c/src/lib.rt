@@ -3,6 +3,7 @@
 
 mod answer;
 mod buffer;
+mod channels;
 mod contents;
 mod controls;
 mod dcbs;
@@ -20,6 +21,7 @@ mod status;
 mod texts;
 
 pub use answer::Answer;
+pub use channels::{ChannelRan, ChannelStatus};
 pub use contents::{Item, Line, Record};
 pub use entries::TraceEntry;
 pub use events::Served;

@@ -9,3 +9,4 @@ pub mod Checkpoints
 pub mod Looks
 pub mod Imaging
 pub mod Reasons
+pub mod Channels

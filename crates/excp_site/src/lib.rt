@@ -21,5 +21,5 @@ pub use medium::Medium;
 pub use reason::Reason;
 pub use refusal::Refusal;
 pub use served::{Served, ServedEnd};
-pub use site::{Room, Site};
+pub use site::{ChannelRun, Room, Site};
 pub use state::{ActiveLook, DcbLook, Place, UnitState};

@@ -1,5 +1,6 @@
 //! A site: its units and tasks, and what its caller is making.
 
+mod channels;
 mod controls;
 mod events;
 mod images;
@@ -18,11 +19,13 @@ ghost use Rattle.excp_site.specs.Sites.{MakesSite, NewRefused, earlier_of, numbe
 use crate::medium::Medium;
 use crate::refusal::Refusal;
 use any_device::AnyDevice;
+pub use channels::ChannelRun;
 pub use media::Room;
 use medium_image::Kept;
 use request_piece::Name;
 use std::alloc::Global;
 use std::marker::Model;
+use subchannel::Subchannel;
 use unit_world::PlainSite;
 
 /// The most units of a site, so that each has a number of 16 bits.
@@ -42,6 +45,8 @@ pub struct Site {
     beside: Vec<Option<Kept>>,
     /// The bytes that were made last.
     made: Vec<u8>,
+    /// Subchannels with devices of their own. Contracts do not see them.
+    channels: Vec<Subchannel<AnyDevice>>,
 }
 
 impl Model for Site {
@@ -77,6 +82,7 @@ impl Site {
             held: Vec::new(alloc),
             beside: Vec::new(alloc),
             made: Vec::new(alloc),
+            channels: Vec::new(alloc),
         })
     }
 

@@ -228,6 +228,36 @@ static void see_places(excp_site *site)
     EXPECT(is_whole(place.guard));
 }
 
+/* A channel with the printer as it is. The second command has a count of 140, of which the printer takes 132. */
+static void see_channel(excp_site *site)
+{
+    GUARDED(excp_channel_ran, ran);
+    GUARDED(excp_channel_status, status);
+    uint8_t storage[0x100];
+    uint32_t channel = 9, code = 9;
+    make(storage, 3, 0x01, 0, 140);
+    memset(storage + LENGTH, 0, sizeof storage - LENGTH);
+    OK(excp_channel_new(site, 2, &channel));
+    EXPECT(channel == 0);
+    OK(excp_channel_start(site, channel, PROGRAM, 0, 0, 0, &code));
+    EXPECT(code == 0);
+    OK(excp_channel_start(site, channel, PROGRAM, 0, 0, 0, &code));
+    EXPECT(code == 2);
+    OK(excp_channel_run(site, channel, 1, BASE, storage, sizeof storage, &ran.it));
+    EXPECT(ran.it.commands == 1 && ran.it.pending == 0);
+    OK(excp_channel_run(site, channel, 9, BASE, storage, sizeof storage, &ran.it));
+    EXPECT(ran.it.commands == 1 && ran.it.pending == 1 && is_whole(ran.guard));
+    OK(excp_channel_halt(site, channel, &code));
+    EXPECT(code == 1);
+    OK(excp_channel_test(site, channel, &status.it));
+    EXPECT(status.it.code == 0 && status.it.address == PROGRAM + 16 && status.it.residual == 8 && status.it.sense == 0);
+    EXPECT(status.it.unit_status == 0x0C && status.it.channel_status == 0x40);
+    OK(excp_channel_test(site, channel, &status.it));
+    EXPECT(status.it.code == 1 && status.it.address == 0 && status.it.channel_status == 0 && is_whole(status.guard));
+    EXPECT(excp_channel_test(site, 1, &status.it) == EXCP_NOTHING_THERE);
+    EXPECT(excp_channel_run(site, channel, 1, BASE + 4, storage, sizeof storage, &ran.it) == EXCP_AREA_MISALIGNED);
+}
+
 /* The other functions, so that each is linked. */
 static void call_others(excp_site *site)
 {
@@ -269,6 +299,7 @@ int main(void)
     see_dcbs(&site);
     see_media(&site);
     see_places(&site);
+    see_channel(&site);
     call_others(&site);
     OK(excp_site_free(&site));
     return faults != 0;

@@ -30,7 +30,10 @@ static excp_item item;
 static excp_line line;
 static excp_active_request active;
 static excp_place place;
+static excp_channel_ran ran;
+static excp_channel_status channel_status;
 static uint16_t number16;
+static uint32_t number32;
 static uint64_t number64;
 static size_t length;
 
@@ -123,6 +126,17 @@ static void refuse_null(void)
     NO_POINTER(excp_drop_made(NULL));
     NO_POINTER(excp_copy_out(NULL, 0, buffer, 16));
     NO_POINTER(excp_copy_out(&site, 0, NULL, 16));
+    NO_POINTER(excp_channel_new(NULL, 0, &number32));
+    NO_POINTER(excp_channel_new(&site, 0, NULL));
+    NO_POINTER(excp_channel_start(NULL, 0, 0, 0, 0, 0, &number32));
+    NO_POINTER(excp_channel_start(&site, 0, 0, 0, 0, 0, NULL));
+    NO_POINTER(excp_channel_run(NULL, 0, 1, 0, buffer, 16, &ran));
+    NO_POINTER(excp_channel_run(&site, 0, 1, 0, NULL, 16, &ran));
+    NO_POINTER(excp_channel_run(&site, 0, 1, 0, buffer, 16, NULL));
+    NO_POINTER(excp_channel_test(NULL, 0, &channel_status));
+    NO_POINTER(excp_channel_test(&site, 0, NULL));
+    NO_POINTER(excp_channel_halt(NULL, 0, &number32));
+    NO_POINTER(excp_channel_halt(&site, 0, NULL));
     NO_POINTER(excp_checkpoint(NULL, 0));
 }
 
@@ -167,6 +181,11 @@ static void refuse_all(excp_status status)
     GIVES(status, excp_made_length(&site, &length));
     GIVES(status, excp_drop_made(&site));
     GIVES(status, excp_copy_out(&site, 0, NULL, 0));
+    GIVES(status, excp_channel_new(&site, 0, &number32));
+    GIVES(status, excp_channel_start(&site, 0, 0, 0, 0, 0, &number32));
+    GIVES(status, excp_channel_run(&site, 0, 1, 0, NULL, 0, &ran));
+    GIVES(status, excp_channel_test(&site, 0, &channel_status));
+    GIVES(status, excp_channel_halt(&site, 0, &number32));
     GIVES(status, excp_checkpoint(&site, 0));
     GIVES(status, excp_site_free(&site));
 }

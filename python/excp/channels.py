@@ -1,0 +1,93 @@
+"""The channel alone: START, TEST and HALT SUBCHANNEL, without the supervisor."""
+
+from __future__ import annotations
+
+import ctypes
+from dataclasses import dataclass
+from typing import Dict
+
+from . import library
+from .area import Area, piece_of
+from .blocks import Address, Csw, address_of
+from .unit import MOST_COMMANDS, Unit
+
+
+@dataclass(frozen=True)
+class ChannelStatus:
+    """What TEST SUBCHANNEL stores. If its condition code is not 0, the rest is 0."""
+
+    code: int
+    csw: Csw = Csw()
+    sense: int = 0
+
+
+@dataclass(frozen=True)
+class ChannelRun:
+    """What a run did: how many commands, and whether a status is pending."""
+
+    commands: int
+    is_pending: bool
+
+
+class Channel:
+    """A channel with a copy of the device of a unit, as it is when the channel is made. Condition
+    codes are those of Principles of Operation, chapter 14."""
+
+    def __init__(self, unit: Unit) -> None:
+        number = ctypes.c_uint32()
+        self._calls = unit.site.calls
+        self._calls.call("channel_new", unit.number, number)
+        self.number = number.value
+        # the storage of the program that was started, where it lies, and its labels
+        self._storage, self._base = ctypes.create_string_buffer(0), 0
+        self._labels: Dict[str, int] = {}
+
+    def start(
+        self,
+        area: Area,
+        start: Address = "CP",
+        *,
+        cylinder: int = 0,
+        head: int = 0,
+        file_mask: int = 0,
+    ) -> int:
+        """START SUBCHANNEL on a copy of the storage of an area, with the channel program at this
+        address or label. A disk seeks to the track, or raises `BadNumber`. Returns the condition
+        code: 0 started, 1 status pending, 2 a program runs."""
+        code, at = ctypes.c_uint32(), address_of(start, area.labels)
+        with self._calls.lock:
+            values = at, cylinder, head, file_mask
+            self._calls.call("channel_start", self.number, *values, code)
+            if code.value == 0:
+                image = bytes(area)
+                self._storage = ctypes.create_string_buffer(image, len(image))
+                self._base, self._labels = area.base, area.labels
+        return code.value
+
+    def run(self, most: int = MOST_COMMANDS) -> ChannelRun:
+        """The program runs for at most `most` commands."""
+        ran = library.ChannelRan()
+        self._calls.call("channel_run", self.number, most, self._base, self._storage, ran)
+        return ChannelRun(ran.commands, bool(ran.pending))
+
+    def test(self) -> ChannelStatus:
+        """TEST SUBCHANNEL: takes the status that is pending."""
+        found = library.ChannelStatus()
+        self._calls.call("channel_test", self.number, found)
+        csw = Csw(found.address, found.unit_status, found.channel_status, found.residual)
+        return ChannelStatus(found.code, csw, found.sense)
+
+    def halt(self) -> int:
+        """HALT SUBCHANNEL. Returns the condition code: 0 halted, 1 status pending."""
+        code = ctypes.c_uint32()
+        self._calls.call("channel_halt", self.number, code)
+        return code.value
+
+    @property
+    def storage(self) -> bytes:
+        """The storage of the program that was started last."""
+        return self._storage.raw
+
+    def at(self, address: Address, length: int) -> bytes:
+        """Bytes of the storage, at an address or a label."""
+        return piece_of(self.storage, self._base, address_of(address, self._labels), length)

@@ -1,0 +1,92 @@
+"""The channel alone, by Principles of Operation, chapter 14, and docs/SPECIFICATION.md."""
+
+import unittest
+
+import excp
+from excp import TAPE_MARK, Area, Ccw, Channel, ChannelRun, ChannelStatus, Csw, Extent, Fault, Flag, Op, Record, Site, Status
+
+
+def read_record(record=1, count=4):
+    """A search of a record, and a read of its data, with no control blocks."""
+    area = Area(0x1000)
+    area.program(Ccw(Op.SIDE, "ID", Flag.CC, 5), Ccw(Op.TIC, "CP"), Ccw(Op.RD, "BUFFER", count=count))
+    area.data("ID", bytes([0, 1, 0, 0, record]))
+    area.space("BUFFER", 8)
+    return area
+
+
+class Channels(unittest.TestCase):
+    def setUp(self):
+        self.site = Site()
+        self.addCleanup(self.site.close)
+        self.disk = self.site.disk(cylinders=2, heads=1, track_bytes=64, records=[Record(1, 0, 1, b"DATA")], faults=[Fault(4, sense=0x0800)])
+        self.channel = Channel(self.disk)
+
+    def test_condition_codes(self):
+        """Of an idle subchannel, one that runs, and one with a status pending."""
+        none = ChannelStatus(1)
+        self.assertEqual((self.channel.test(), self.channel.run()), (none, ChannelRun(0, False)))
+        self.assertEqual(self.channel.start(read_record(), cylinder=1), 0)
+        self.assertEqual((self.channel.start(read_record(), cylinder=1), self.channel.test()), (2, none))
+        # a search passes R0, the next one finds record 1, and the read moves its data
+        self.assertEqual([self.channel.run(1) for _ in range(2)], [ChannelRun(1, False)] * 2)
+        self.assertEqual(self.channel.run(), ChannelRun(1, True))
+        self.assertEqual((self.channel.start(read_record()), self.channel.halt(), self.channel.run()), (1, 1, ChannelRun(0, True)))
+        self.assertEqual(self.channel.at("BUFFER", 4), b"DATA")
+        self.assertEqual(self.channel.test(), ChannelStatus(0, Csw(0x1018, 0x0C, 0x00, 0)))
+        self.assertEqual(self.channel.test(), none)
+
+    def test_halt(self):
+        """Of a program after its first search, whose CCW is the last one that was used; and of an idle subchannel."""
+        self.channel.start(read_record(), cylinder=1)
+        self.channel.run(1)
+        self.assertEqual((self.channel.halt(), self.channel.halt()), (0, 1))
+        self.assertEqual(self.channel.test(), ChannelStatus(0, Csw(0x1008, 0x0C, 0x00, 0)))
+        self.assertEqual(self.channel.halt(), 0)
+        self.assertEqual(self.channel.test(), ChannelStatus(0, Csw()))
+
+    def test_no_retry(self):
+        """The fault of command 4 ends the second program: the channel does not try it again."""
+        for code, csw, sense in ((0, Csw(0x1018, 0x0C, 0x00, 0), 0), (0, Csw(0x1008, 0x0E, 0x00, 5), 0x0800)):
+            self.channel.start(read_record(), cylinder=1)
+            self.assertTrue(self.channel.run().is_pending)
+            self.assertEqual(self.channel.test(), ChannelStatus(code, csw, sense))
+
+    def test_incorrect_length(self):
+        """A count of 8 for 4 bytes: 4 are residual, and channel status 40."""
+        self.channel.start(read_record(count=8), cylinder=1)
+        self.channel.run()
+        self.assertEqual(self.channel.test().csw, Csw(0x1018, 0x0C, 0x40, 4))
+
+    def test_apart(self):
+        """Each channel has a device of its own, as that of the unit was; the unit stays as it is."""
+        tape = self.site.tape(items=[b"ONE.", TAPE_MARK], length=100)
+        first, second = Channel(tape), Channel(tape)
+        area = Area(0x2000)
+        area.program(Ccw(Op.RDF, "BUFFER", count=4))
+        area.space("BUFFER", 4)
+        for channel in first, second:
+            channel.start(area)
+            channel.run()
+            self.assertEqual((channel.at("BUFFER", 4), channel.test().csw), (b"ONE.", Csw(0x2008, 0x0C, 0x00, 0)))
+        first.start(area)
+        first.run()
+        # the mark is unit exception, and no byte was moved
+        self.assertEqual(first.test().csw, Csw(0x2008, 0x0D, 0x00, 4))
+        self.assertEqual((tape.place.passed, tape.count_entries()), (0, 0))
+
+    def test_mistakes(self):
+        with self.assertRaises(excp.BadNumber):
+            self.channel.start(read_record(), cylinder=2)
+        with self.assertRaises(excp.BadNumber):
+            self.channel.run(0)
+        self.channel.number = 9
+        for call in self.channel.test, self.channel.halt, self.channel.run:
+            with self.assertRaises(excp.ExcpError) as raised:
+                call()
+            self.assertEqual(raised.exception.status, Status.NOTHING_THERE)
+        self.assertEqual(self.disk.open(extents=[Extent.between((0, 0), (1, 0), 1)]).number, 1)
+
+
+if __name__ == "__main__":
+    unittest.main()
