@@ -98,7 +98,7 @@ PutsNoFault s t e = (e ≡ NoMemory) × (t.medium.faults.items ≡ s.medium.faul
 -- a DCB is not opened: its extents are none, or the site says why, and what it leaves; the reason is kept in words
 abbrev pub NotOpened : SiteView → SiteView → ℕ → List ℕ → Refusal → Type 0
 NotOpened s t unit bytes e = (ExtentsRefused bytes e × LeavesReason s t e)
-    ⊎ ((m : SiteView) × OpenCallRefused s.plain unit (extents_in bytes) e × OpenCallLeaves s.plain unit m.plain e × OnlyPlain s m × LeavesReason m t e)
+    ⊎ ((m : SiteView) × OnlyPlain s m × OpenCallLeaves s.plain unit m.plain e × LeavesReason m t e × OpenCallRefused s.plain unit (extents_in bytes) e)
 
 -- THE EVENTS of a unit
 abbrev pub SiteTakes : ℕ → SiteView → Intake → SiteView → Type 0
@@ -146,7 +146,7 @@ RefusedAs h k status Why = Refused h k status (λ s t e. Why s e × LeavesReason
 
 -- an image was refused: the rule that it breaks is kept in words, or the reason
 abbrev pub ImageRefusedAs : Handle → Handle → ℕ → (SiteView → Refusal → Type 0) → Type 0
-ImageRefusedAs h k status Why = Refused h k status (λ s t e. (m : SiteView) × Why s e × LeavesMade s m e × LeavesReason m t e)
+ImageRefusedAs h k status Why = Refused h k status (λ s t e. (m : SiteView) × LeavesMade s m e × LeavesReason m t e × Why s e)
 
 -- A REQUEST was issued, and its number was written out
 abbrev pub IssuesAs : ℕ → ℕ → ℕ → ℕ → Storage → ℕ → SiteView → SiteView → Type 0
