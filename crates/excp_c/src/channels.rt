@@ -1,6 +1,6 @@
 //! Channels alone (c/excp.h, "The channel alone").
 
-ghost use Rattle.std.specs.Prelude.{◌≡◌, ◌≢◌, ◌≤◌, length};
+ghost use Rattle.std.specs.Prelude.{◌≡◌, ◌≢◌, length};
 ghost use Rattle.excp_site.specs.Channels.{AddChannelRefused, ChannelRefused, ChannelRunRefused, ChannelStartRefused};
 ghost use Rattle.excp_c.specs.Done.{Refused};
 ghost use Rattle.excp_c.specs.Calls.{KeepsSite, SameSite, TestsSite};
@@ -85,7 +85,6 @@ pub extern "C" fn excp_call_channel_run(
     ensures site { TestsSite handle.old result }
     ensures keeps { KeepsSite handle.old handle.new }
     ensures same { SameSite handle.old handle.new }
-    ensures most { result ≡ 0 → ran.new.commands ≤ max_commands }
     ensures why { result ≢ 0 → result ≢ 3 → Refused handle.old handle.new result (λ _ _. ChannelRunRefused max_commands base (length storage.old)) }
     ensures refused { result ≢ 0 → ran.new ≡ ran.old }
 {

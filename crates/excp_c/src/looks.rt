@@ -125,7 +125,10 @@ fn active_request_of(site: &Site, unit: u16, active: ActiveLook) -> ActiveReques
 {
     ActiveRequest {
         number: site.number(unit, active.name),
-        next: active.next.unwrap_or(0),
+        next: match active.next {
+            Some(address) => address,
+            None => 0,
+        },
         attempt: active.attempt,
         task: active.name.task,
         dcb: active.dcb,

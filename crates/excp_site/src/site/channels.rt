@@ -3,7 +3,7 @@
 //! No contract sees the channels of a site. What a channel does is proved in `subchannel`; tests show that the site calls the
 //! right one.
 
-ghost use Rattle.std.specs.Prelude.{◌≡◌, ◌≤◌, IfErr, IfOk, OnOk, length};
+ghost use Rattle.std.specs.Prelude.{◌≡◌, ◌≤◌, IfErr, OnOk, length};
 ghost use Rattle.std.specs.Bool.{OnTrue};
 ghost use Rattle.any_device.specs.Devices.{any_device};
 ghost use Rattle.excp_site.specs.Channels.{AddChannelRefused, ChannelRefused, ChannelRunRefused, ChannelStartRefused};
@@ -85,7 +85,6 @@ impl Site {
     ) -> Result<ChannelRun, Refusal>
         ensures same { self.new ≡ self.old }
         ensures some { OnOk result (1 ≤ max) }
-        ensures most { IfOk result (λ run. run.commands ≤ max) }
         ensures refused { IfErr result (ChannelRunRefused max base (length storage.old)) }
         ensures len { length storage.new ≡ length storage.old }
     {
@@ -146,7 +145,6 @@ fn takes(channel: &Subchannel<AnyDevice>, seek: &Seek) -> bool
 /// Runs the program of a channel, if one runs. Returns how many commands were done.
 fn commands_run(channel: &mut Subchannel<AnyDevice>, area: &mut Area, max: u32) -> u32
     requires { 1 ≤ max }
-    ensures most { result ≤ max }
     ensures place { SamePlace area.old area.new }
 {
     match channel.run(area, max) {
