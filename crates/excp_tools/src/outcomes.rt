@@ -4,7 +4,8 @@
 //!
 //!     job LENGTH            first: the text of the script follows, which is searched
 //!     try STATES LENGTH     the text of a changed script follows, which is searched up to this number of states
-//!     steps REQUEST PLACE   the steps that lead to an outcome of a request, by its place among them
+//!     steps REQUEST PLACE   the steps that first reach an outcome of a request, by its place among them
+//!     short REQUEST PLACE   of these only steps that the outcome needs
 //!     whole PLACE           the steps that lead to a whole output
 //!     media UNIT PLACE      the steps of a whole run that leaves a medium of a unit, by its place among them
 //!     run                   the steps of some whole run
@@ -47,11 +48,25 @@ struct Questions<R: Read + Drop> {
 /// A question.
 #[derive(Clone, Copy)]
 enum Question {
-    Job { length: usize },
-    Try { states: u32, length: usize },
-    Steps { request: u16, place: usize },
-    Whole { place: usize },
-    Media { unit: u16, place: usize },
+    Job {
+        length: usize,
+    },
+    Try {
+        states: u32,
+        length: usize,
+    },
+    Steps {
+        request: u16,
+        place: usize,
+        is_short: bool,
+    },
+    Whole {
+        place: usize,
+    },
+    Media {
+        unit: u16,
+        place: usize,
+    },
     Run,
 }
 
@@ -105,9 +120,10 @@ fn question_of(line: &[u8]) -> Option<Question> {
             states: first.parse().ok()?,
             length: second.parse().ok()?,
         }),
-        "steps" => Some(Question::Steps {
+        "steps" | "short" => Some(Question::Steps {
             request: first.parse().ok()?,
             place: second.parse().ok()?,
+            is_short: word == "short",
         }),
         "whole" => Some(Question::Whole {
             place: first.parse().ok()?,
@@ -190,11 +206,19 @@ pub fn outcomes(
 /// The steps that a question asks for.
 fn steps_of(search: &mut Search<'_>, question: Question) -> Result<Option<Vec<Step>>, AllocError> {
     match question {
-        Question::Steps { request, place } => {
+        Question::Steps {
+            request,
+            place,
+            is_short,
+        } => {
             let Some(outcome) = search.outcomes(request).get(place).copied() else {
                 return Ok(None);
             };
-            search.witness(request, outcome.key)
+            if is_short {
+                search.short_witness(request, outcome.key)
+            } else {
+                search.witness(request, outcome.key)
+            }
         }
         Question::Whole { place } => search.whole_witness(place),
         Question::Media { unit, place } => {

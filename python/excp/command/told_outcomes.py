@@ -180,7 +180,7 @@ class _Run:
         outcomes = [] if request is None else self._found.outcomes[request.place]
         if request is None or not 1 <= number <= len(outcomes):
             return None
-        steps = self._search.steps_to(request.place, outcomes[number - 1])
+        steps = self._search.short_steps_to(request.place, outcomes[number - 1])
         if steps is None:
             return None
         witness = bench.witness(steps, request, outcomes[number - 1])

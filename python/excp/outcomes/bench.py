@@ -19,12 +19,6 @@ from .job import NumberedJob, Request
 from .media import Medium, medium_of
 from .search import Outcome
 
-# How many steps are left out at a time, in turn; and how much work it takes at most to make a
-# witness short, in steps and commands, and to make all short.
-_SIZES = 8, 4, 2, 1
-_MOST_WORK = 20_000
-_MOST_WORK_OF_ALL = 500_000
-
 # What a command of a task answers that cannot be made.
 _NOT_MADE = "Full", "NoNumber", "NoSuchDcb"
 
@@ -47,8 +41,6 @@ class Bench:
     def __init__(self, job: NumberedJob, images: Mapping[int, bytes]) -> None:
         self.job, self.images = job, images
         self._rooms = job.steps.rooms()
-        # how much work may still be done to make witnesses short
-        self._left = _MOST_WORK_OF_ALL
 
     def stage(self) -> Stage:
         """A new site of the job."""
@@ -59,41 +51,18 @@ class Bench:
     def witness(
         self, steps: Sequence[str], request: Request, outcome: Outcome
     ) -> Optional[Witness]:
-        """What steps lead to, made short, if it is this outcome of a request."""
-        best, _ = self.carry_out(steps, request, outcome)
-        left = spared = min(_MOST_WORK, self._left)
-        for size in _SIZES:
-            if best is None:
-                return None
-            kept = _own(best.steps)
-            at = len(kept)
-            while at and left > 0:
-                at = max(0, at - size)
-                fewer = [*kept[:at], *kept[at + size :]]
-                shorter, work = self.carry_out(fewer, request, outcome)
-                left -= work
-                if shorter is not None:
-                    best, kept = shorter, fewer
-        self._left -= spared - left
-        return best
-
-    def carry_out(
-        self, steps: Sequence[str], request: Request, outcome: Outcome
-    ) -> Tuple[Optional[Witness], int]:
-        """Carries steps out up to the post of a request. Before a wait that cannot go on yet, posts
-        are delivered and collected, and so is that post at the end. Gives what they lead to, if it
-        is this outcome, and how much work that took."""
+        """What steps lead to, up to the post of a request, if it is this outcome. Before a wait that
+        cannot go on yet, posts are delivered and collected, and so is that post at the end."""
         with _Rerun(self, request.name) as run:
             run.all(steps)
             is_it = run.has_target and run.posts[-1].split(" ", 4)[4] == outcome.text
-            return (run.witness() if is_it else None), run.work()
+            return run.witness() if is_it else None
 
     def whole(self, steps: Sequence[str]) -> Optional[Witness]:
         """What steps lead to, up to the posts of all requests, if all comes to its end."""
         with _Rerun(self, None) as run:
             is_over = run.all(steps) and run.is_over()
             return run.witness() if is_over else None
-
 
     def medium(self, steps: Sequence[str], unit: int) -> Optional[Tuple[Witness, Medium]]:
         """As `whole`, with the medium that a unit has then."""
@@ -116,7 +85,7 @@ class _Rerun:
         self.posts: List[str] = []
         self.has_target = False
         tasks = len(bench.job.tasks)
-        self._done, self._awaited, self._commands = [0] * tasks, [0] * tasks, 0
+        self._done, self._awaited = [0] * tasks, [0] * tasks
 
     def __enter__(self) -> _Rerun:
         return self
@@ -143,10 +112,6 @@ class _Rerun:
         tasks, units = self._job.tasks, self._stage.site.units
         is_done = all(len(it) == done for it, done in zip(tasks, self._done))
         return is_done and not any(self._awaited) and all(it.is_drained for it in units)
-
-    def work(self) -> int:
-        """How many steps were made, and how many commands ran."""
-        return self._commands + len(self.steps)
 
     def record(self, unit: int) -> str:
         """What happened at a unit, and its medium."""
@@ -184,7 +149,6 @@ class _Rerun:
 
     def _of_unit(self, verb: str, number: int, *most: int) -> bool:
         answer = self._stage.site.calls.plain_event(verb, number, *most)
-        self._commands += answer.commands
         return answer.kind not in UNCHANGED
 
     def _of_task(self, _: str, task: int) -> bool:
@@ -234,8 +198,3 @@ def _parsed(step: str) -> Sequence[Any]:
     """The first word of a step, and its numbers."""
     verb, *numbers = step.split()
     return verb, *map(int, numbers)
-
-
-def _own(steps: Sequence[str]) -> List[str]:
-    """Steps without deliveries and collections, which are made again where they are wanted."""
-    return [it for it in steps if not it.startswith(("deliver", COLLECT))]

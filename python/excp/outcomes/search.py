@@ -98,6 +98,10 @@ class Search:
                 raise
             return None
 
+    def short_steps_to(self, request: int, outcome: Outcome) -> Optional[Sequence[str]]:
+        """As `steps_to`, without steps that the outcome does not need."""
+        return self._steps(f"short {request} {outcome.place}")
+
     def steps_to(self, request: int, outcome: Outcome) -> Optional[Sequence[str]]:
         """The steps that lead to an outcome of a request."""
         return self._steps(f"steps {request} {outcome.place}")

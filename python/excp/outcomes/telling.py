@@ -151,7 +151,7 @@ class Teller:
     def _witness(self, request: Request, outcome: Outcome, number: int) -> Optional[Witness]:
         """The witness of an outcome, made short, whose scenario is handed over if it is wanted.
         `None` if the search is wrong about it."""
-        steps = self._search.steps_to(request.place, outcome)
+        steps = self._search.short_steps_to(request.place, outcome)
         witness = None if steps is None else self._bench.witness(steps, request, outcome)
         if witness is None:
             self.has_lost = True
@@ -167,7 +167,7 @@ class Teller:
         if line is None:
             steps = self._search.steps_to(request.place, outcome)
             if steps is not None:
-                witness, _ = self._bench.carry_out(steps, request, outcome)
+                witness = self._bench.witness(steps, request, outcome)
                 if witness is not None:
                     line = witness.posts[-1]
                     self._tally.add(witness.posts[:-1])
