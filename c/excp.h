@@ -396,8 +396,8 @@ excp_status excp_copy_out(excp_site *site, size_t from, uint8_t *bytes, size_t l
  * channel. Condition codes are those of Principles of Operation, chapter 14. */
 excp_status excp_channel_new(excp_site *site, uint16_t unit, uint32_t *channel);
 
-/* START SUBCHANNEL: seeks a disk to this track (EXCP_BAD_NUMBER: it has none), sets its file mask, and starts the program at an
- * address. `code`: 0 started, 1 status pending, 2 a program runs. */
+/* START SUBCHANNEL: seeks a disk to this track (EXCP_BAD_NUMBER: it has none, or the address has more than 24 bits), sets its file
+ * mask, and starts the program at an address. `code`: 0 started, 1 status pending, 2 a program runs. */
 excp_status excp_channel_start(excp_site *site, uint32_t channel, uint32_t start, uint16_t cylinder, uint16_t head, uint8_t file_mask,
                                uint32_t *code);
 

@@ -18,7 +18,7 @@ abbrev pub ChannelRefused : Refusal → Type 0
 ChannelRefused NothingThere = Unit {0}
 ChannelRefused _ = ⊥
 
--- or its disk has no such track
+-- or its disk has no such track, or the address has more than 24 bits
 abbrev pub ChannelStartRefused : Refusal → Type 0
 ChannelStartRefused BadNumber = Unit {0}
 ChannelStartRefused e = ChannelRefused e

@@ -18,6 +18,9 @@ use io_area::Area;
 use io_images::{Address, Csw, Seek};
 use subchannel::Subchannel;
 
+/// Addresses have 24 bits.
+const END_OF_ADDRESSES: u32 = 0x0100_0000;
+
 /// What a run of a channel did.
 #[derive(Clone, Copy, PartialEq, Eq, Debug)]
 pub struct ChannelRun {
@@ -46,7 +49,7 @@ impl Site {
 
     /// START SUBCHANNEL: seeks, sets the file mask, and starts the program at an address. Returns the condition code.
     ///
-    /// Errors: `NothingThere` if there is no such channel; `BadNumber` if its disk has no such track.
+    /// Errors: `NothingThere` if there is no such channel; `BadNumber` if its disk has no such track, or the address more than 24 bits.
     pub fn start_channel(
         &mut self,
         channel: u32,
@@ -66,7 +69,7 @@ impl Site {
             head,
             ..Seek::default()
         };
-        if !takes(channel, &seek) {
+        if start >= END_OF_ADDRESSES || !takes(channel, &seek) {
             return Err(Refusal::BadNumber);
         }
         Ok(channel.ssch(Address::new(start), &seek, mask))
