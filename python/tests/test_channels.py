@@ -79,6 +79,8 @@ class Channels(unittest.TestCase):
         with self.assertRaises(excp.BadNumber):
             self.channel.start(read_record(), cylinder=2)
         with self.assertRaises(excp.BadNumber):
+            self.channel.start(read_record(), 0x1000000)
+        with self.assertRaises(excp.BadNumber):
             self.channel.run(0)
         self.channel.number = 9
         for call in self.channel.test, self.channel.halt, self.channel.run:

@@ -731,6 +731,15 @@ def is_quick(setup):
     require(last.endswith(f", {OUTPUTS_OF_EIGHT} whole outputs)"), f"the last line is {last!r}")
 
 
+def tells_many(setup):
+    """A job of 4,000 requests that wait for a purge is searched to its end, and told."""
+    requests = 4_000
+    script = DISK + OPEN + PLAIN + EXCP.format(0, 0) * requests + "purge 1 0 1 quiesce\n"
+    told, last = outcomes_of(setup, script)
+    require(last.startswith(f"{requests} requests have more than one outcome (") and len(told) == requests, f"the last line is {last!r}")
+    require(all(posts == [WAITED, ENDED] for posts in told.values()), "a request has other outcomes")
+
+
 def leaves_its_script(setup):
     """A scenario is not written to the script, by whatever name, and the script stays as it was."""
     script = DISK + OPEN + PLAIN + EXCP.format(0, 0)
@@ -791,6 +800,7 @@ def cases(setup):
     yield Case("shares of runs", lambda: shares_are_counted(setup), ORIGIN)
     yield Case("a search that takes long", lambda: is_ended(setup), ORIGIN)
     yield Case("many requests and a halt", lambda: is_quick(setup), ORIGIN)
+    yield Case("very many requests and a quiesce", lambda: tells_many(setup), ORIGIN)
     yield Case("one outcome of a search that is cut", lambda: says_it_was_cut(setup), ORIGIN)
     for file in sorted(glob.glob(f"{SAMPLES}/outcomes/*.script")):
         yield Case(os.path.relpath(file, TOP), lambda f=file: is_stored(setup, f), ORIGIN)

@@ -21,9 +21,6 @@ _NUMBERS = {
     "often": (1, _MOST),
 }
 
-# How many runs by seeds a search is compared with, unless said otherwise.
-_SEEDS = 20
-
 _EXCLUSIONS = {
     "often": (
         "most-seconds", "no-reductions", "whole", "media", "all", "outcome", "scenarios", "allow",
@@ -63,7 +60,7 @@ def run(given: argparse.Namespace) -> int:
     use_library(given.program_of)
     wanted = Wanted(
         limits=Limits(given.turn, given.most_states, given.most_seconds),
-        seeds=_SEEDS if given.seeds is None else given.seeds,
+        seeds=given.seeds,
         often=given.often,
         has_wholes=given.whole,
         has_media=given.media,

@@ -36,12 +36,17 @@ from .tools import PROGRAM, Order
 from .whole_script import WholeScript
 
 
+# How many runs by seeds a search is compared with, unless said otherwise: so many, but no more than
+# make so many requests; one at least.
+_SEEDS, _MOST_RUN = 20, 8_000
+
+
 @dataclass(frozen=True)
 class Wanted:
     """What is asked of the outcomes, as its options say it."""
 
     limits: Limits
-    seeds: int
+    seeds: Optional[int]
     often: Optional[int]
     has_wholes: bool
     has_media: bool
@@ -55,6 +60,12 @@ class Wanted:
     def counts(self) -> Counts:
         """What the last line says of the search."""
         return Counts(self.has_wholes, self.is_reduced)
+
+    def seeds_for(self, requests: int) -> int:
+        """How many runs by seeds a search of a job with so many requests is compared with."""
+        if self.seeds is not None:
+            return self.seeds
+        return min(_SEEDS, max(1, _MOST_RUN // max(1, requests)))
 
     @property
     def turn_of_seeds(self) -> int:
@@ -212,7 +223,7 @@ class _Run:
     def _tally_of_seeds(self) -> Tally:
         """What runs by seeds come to, if all was found."""
         wanted, bench, tally = self._wanted, self._bench, Tally(self._bench.job)
-        seeds = wanted.seeds if self._found.is_complete else 0
+        seeds = wanted.seeds_for(len(bench.job.requests)) if self._found.is_complete else 0
         tally.run_seeds(bench, seeds, wanted.turn_of_seeds, self._has_time)
         return tally
 

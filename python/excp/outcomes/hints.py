@@ -31,7 +31,10 @@ class _Line:
 
 def hint(trials: Trials, job: NumberedJob, base: Measures, request: Request) -> str:
     """The lines that race with a request, and the changes that make one outcome of it, if such are
-    found. `base` says what the requests have without a change. It is empty if memory ran out."""
+    found. `base` says what the requests have without a change. It is empty if memory ran out, and
+    if no more trials may be made."""
+    if not trials.may_go_on():
+        return ""
     issue = _Line(request.line, request.task)
     found = _racing_first(trials, issue, _others_at_its_unit(job, request))
     if found is None:
