@@ -6,6 +6,7 @@ to its end.
 """
 
 import glob
+import html.parser
 import os
 import re
 import sys
@@ -740,6 +741,51 @@ def tells_many(setup):
     require(all(posts == [WAITED, ENDED] for posts in told.values()), "a request has other outcomes")
 
 
+class Beside(html.parser.HTMLParser):
+    """The rows of the tables of a page of outcomes: the class of each, and the texts of its cells; and what is marked."""
+
+    def __init__(self, text):
+        super().__init__()
+        self.rows, self.marked, self.elements = [], [], set()
+        self._is_marked = self._is_in_cell = False
+        self.feed(text)
+
+    def handle_starttag(self, tag, attrs):
+        self.elements.add(tag)
+        self._is_marked = tag == "mark"
+        if tag == "tr":
+            self.rows.append((dict(attrs).get("class"), []))
+        elif tag == "td":
+            self._is_in_cell = True
+            self.rows[-1][1].append("")
+
+    def handle_data(self, data):
+        if self._is_marked:
+            self.marked.append(data)
+        if self._is_in_cell:
+            self.rows[-1][1][-1] += data
+
+    def handle_endtag(self, tag):
+        self._is_marked = False
+        self._is_in_cell &= tag != "td"
+
+
+def is_a_page(setup):
+    """A page has each other outcome beside the one with 7F, and a mark where the steps part. It has no script."""
+    file = f"{SAMPLES}/outcomes/a-halt.symbolic"
+    ran = setup.run("outcomes", "--html", file)
+    page = Beside(ran.out)
+    told = [it for it in told_by(setup, read(file))[0]["0 0 1"]]
+    posts = [cells for kind, cells in page.rows if kind == "post"]
+    usual, others = f"post 0 0 1 {told[-1]}", [f"post 0 0 1 {it}" for it in told[:-1]]
+    require(posts == [[usual, it] for it in others], f"the posts are {posts}", ran)
+    parts = [cells for kind, cells in page.rows if kind == "differs parts"]
+    halt = "purge 1 0 1 halt <-"
+    require(parts == [["start 0", halt], ["run 0 5000", halt], ["run 0 5000", "run 0 1"]], f"they part at {parts}", ran)
+    require("48" in page.marked and "post" not in page.marked and "script" not in page.elements, "other marks, or a script", ran)
+    require(ran.status == 5 and "default-src 'none'" in ran.out, "another status or policy", ran)
+
+
 def leaves_its_script(setup):
     """A scenario is not written to the script, by whatever name, and the script stays as it was."""
     script = DISK + OPEN + PLAIN + EXCP.format(0, 0)
@@ -801,6 +847,7 @@ def cases(setup):
     yield Case("a search that takes long", lambda: is_ended(setup), ORIGIN)
     yield Case("many requests and a halt", lambda: is_quick(setup), ORIGIN)
     yield Case("very many requests and a quiesce", lambda: tells_many(setup), ORIGIN)
+    yield Case("a page", lambda: is_a_page(setup), ORIGIN)
     yield Case("one outcome of a search that is cut", lambda: says_it_was_cut(setup), ORIGIN)
     for file in sorted(glob.glob(f"{SAMPLES}/outcomes/*.script")):
         yield Case(os.path.relpath(file, TOP), lambda f=file: is_stored(setup, f), ORIGIN)

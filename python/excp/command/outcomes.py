@@ -6,7 +6,7 @@ import argparse
 
 from .options import check_exclusions, codes, number, words_of
 from .script_file import add_script
-from .tools import Order
+from .tools import Order, title_of
 from .unit_files import add_force, add_load
 from .whole_script import read_job
 
@@ -24,9 +24,9 @@ _NUMBERS = {
 _EXCLUSIONS = {
     "often": (
         "most-seconds", "no-reductions", "whole", "media", "all", "outcome", "scenarios", "allow",
-        "fix",
+        "fix", "html",
     ),
-    "outcome": ("whole", "media", "all", "scenarios", "allow", "fix"),
+    "outcome": ("whole", "media", "all", "scenarios", "allow", "fix", "html"),
 }
 
 
@@ -43,6 +43,7 @@ def add_arguments(parser: argparse.ArgumentParser) -> None:
     parser.add_argument("--allow", type=codes, metavar="CODES", help="the codes that are no error")
     parser.add_argument("--scenarios", metavar="DIR", help="a scenario for each outcome")
     parser.add_argument("--fix", metavar="FILE", help="the job with the changes of hints")
+    parser.add_argument("--html", action="store_true", help="a page of outcomes side by side")
     add_force(parser)
     add_load(parser)
     add_script(parser)
@@ -69,5 +70,7 @@ def run(given: argparse.Namespace) -> int:
         outcome=given.outcome,
         allow=given.allow,
         fix=given.fix,
+        has_page=given.html,
+        title=title_of(given.script),
     )
     return carry_out(order, job, wanted)

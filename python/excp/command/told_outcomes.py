@@ -16,6 +16,7 @@ from ..outcomes.bench import Bench
 from ..outcomes.fixing import fixed
 from ..outcomes.job import NumberedJob, Request
 from ..outcomes.looks import Limits, Look, first_look, look_in_place
+from ..outcomes.page import Pictures, page_of
 from ..outcomes.running import running
 from ..outcomes.scenarios import scenario_of
 from ..outcomes.search import Found, Search, SearchEnded
@@ -55,6 +56,8 @@ class Wanted:
     outcome: Optional[Sequence[int]]
     allow: Optional[Sequence[str]]
     fix: Optional[str]
+    has_page: bool
+    title: str
 
     @property
     def counts(self) -> Counts:
@@ -126,7 +129,8 @@ def _status(
             found = search.of_job(source.script.script)
             bench = _bench(source, files)
             if found.is_complete or not look.is_first:
-                return _Run(source, wanted, look, search, found, bench, begun).status(kept)
+                run = _Run(source, wanted, look, search, found, bench, begun)
+                return run.status(kept)
             seconds = int(time.monotonic() - begun)
             look = look_in_place(wanted.limits, bench.job.has_halt, seconds)
 
@@ -160,6 +164,8 @@ class _Run:
     ) -> None:
         self._source, self._wanted, self._look, self._search = source, wanted, look, search
         self._found, self._bench, self._begun = found, bench, begun
+        self._pictures = Pictures() if wanted.has_page else None
+        self._write = _print if self._pictures is None else self._pictures.texts.append
 
     def _has_time(self) -> bool:
         """Whether there is time left. The printing may take as long as the search."""
@@ -204,7 +210,7 @@ class _Run:
         found = fixed(self._search, job, text, self._found, self._has_time)
         if found.text is not None:
             file.write(found.text)
-        _print(found.told)
+        self._write(found.told)
 
     def _print_all(self, kept: Kept) -> int:
         """Prints all that was found, and returns the exit status."""
@@ -212,7 +218,10 @@ class _Run:
         missed = tally.missed(found)
         told = self._tell(tally, kept)
         verdict = verdict_of(found, told)
-        _print(told_verdict(found, verdict, told, self._look, wanted.counts))
+        last = told_verdict(found, verdict, told, self._look, wanted.counts)
+        self._write(last)
+        if self._pictures is not None:
+            _print_page(self._pictures, wanted.title, last)
         if missed is not None:
             _note_missed(*missed)
             return FAILED
@@ -233,9 +242,9 @@ class _Run:
         run = search.steps_of_run()
         whole = None if run is None else bench.whole(run)
         tally.add([] if whole is None else whole.posts)
-        asked = Asked(wanted.tells_all, kept.keeper)
-        teller = Teller(search, found, bench, tally, asked, self._has_time, _print)
-        media = MediaTeller(search, found, bench, wanted.tells_all, self._has_time, _print)
+        asked = Asked(wanted.tells_all, kept.keeper, self._pictures)
+        teller = Teller(search, found, bench, tally, asked, self._has_time, self._write)
+        media = MediaTeller(search, found, bench, wanted.tells_all, self._has_time, self._write)
         teller.tell_all()
         media.tell_all()
         teller.tell_outputs(media.told_of_output)
@@ -271,6 +280,11 @@ def _judged(found: Found, told: Told, job: NumberedJob, allow: Sequence[str]) ->
 
 def _print(text: str) -> None:
     write_at_once(text.encode("latin-1"))
+
+
+def _print_page(pictures: Pictures, title: str, last: str) -> None:
+    for piece in page_of(pictures, title, last):
+        write_at_once(piece.encode())
 
 
 class _Scenarios:

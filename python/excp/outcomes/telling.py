@@ -9,6 +9,7 @@ from .bench import Bench, Witness
 from .changes import Trials, measures
 from .hints import hint
 from .job import Request
+from .page import Pictured, Pictures
 from .scenarios import scenario_of, scenario_of_all, steps_as_comments
 from .search import Found, Outcome, Search
 from .tally import Tally
@@ -38,10 +39,11 @@ class Keeper(Protocol):
 @dataclass(frozen=True)
 class Asked:
     """What is asked for: whether all outcomes are printed, however many there are; and what takes
-    scenarios, if they are wanted."""
+    scenarios and outcomes for a page, if they are wanted."""
 
     tells_all: bool
     keeper: Optional[Keeper]
+    pictures: Optional[Pictures]
 
 
 class Teller:
@@ -142,11 +144,20 @@ class Teller:
         if self._is_long(outcome):
             how = f"--outcome {request.name} {number}"
             more = f"#   more than {_MOST_STEPS} steps, which {how} prints\n"
-            return self._write(f"{head}{self._line_of(request, outcome)}{more}")
+            line = self._line_of(request, outcome)
+            self._picture(request, number, line, "")
+            return self._write(f"{head}{line}{more}")
         witness = self._witness(request, outcome, number)
         if witness is not None:
             steps = steps_as_comments(self._job, witness.steps, request)
+            self._picture(request, number, witness.posts[-1], steps)
             self._write(f"{head}{witness.posts[-1]}\n{steps}")
+
+    def _picture(self, request: Request, number: int, post: str, steps: str) -> None:
+        """Hands an outcome over that a page may show."""
+        if self._asked.pictures is not None and post:
+            lines = [line[4:] for line in steps.splitlines()]
+            self._asked.pictures.add(request, Pictured(number, post, lines))
 
     def _witness(self, request: Request, outcome: Outcome, number: int) -> Optional[Witness]:
         """The witness of an outcome, made short, whose scenario is handed over if it is wanted.

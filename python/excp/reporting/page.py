@@ -57,13 +57,13 @@ def page_report(record: Record, about: About, most: int) -> Iterator[str]:
     # the posts and the steps come after the script, so that a browser draws the lanes before it
     # reads them
     parts: Mapping[str, Callable[[], Iterable[str]]] = {
-        "title": lambda: [_escaped(about.title)],
+        "title": lambda: [escaped(about.title)],
         "front": lambda: map(_without_tags, chain(run.front(), [run.further_r0()])),
         "posts": run.posts,
         "rest": lambda: map(_without_tags, run.back()),
         "job": lambda: map(_without_tags, about.job()),
         "states": lambda: map(_without_tags, about.states()),
-        "foot": lambda: [_escaped(about.foot())],
+        "foot": lambda: [escaped(about.foot())],
     }
     for number, piece in enumerate(_template()):
         if number % 2:
@@ -72,9 +72,10 @@ def page_report(record: Record, about: About, most: int) -> Iterator[str]:
             yield piece
 
 
-def _escaped(title: str) -> str:
-    """A title as text of an element, with a sign for each control character."""
-    visible = (("\ufffd" if unicodedata.category(it) == "Cc" else it) for it in title)
+def escaped(text: str, keeps: str = "") -> str:
+    """A text as that of an element, with a sign for each control character but those it keeps."""
+    is_sign = (unicodedata.category(it) == "Cc" and it not in keeps for it in text)
+    visible = ("\ufffd" if sign else it for it, sign in zip(text, is_sign))
     return html.escape("".join(visible), quote=False)
 
 
@@ -86,13 +87,18 @@ def _without_tags(text: str) -> str:
 
 def _template() -> List[str]:
     """The pieces of a page, and between them the names of the parts that a run puts in."""
-    style = f"\n{_stripped(_files(STYLES, 'css'))}\n"
+    style = style_of(STYLES)
     script = _ascii(f'\n"use strict";\n{{\n{_stripped(_files(SCRIPTS, "js"))}\n}}\n')
-    hashes = {"style-hash": _hash(style), "script-hash": _hash(script)}
+    hashes = {"style-hash": hash_of(style), "script-hash": hash_of(script)}
     parts = {"style": style, "script": script, **hashes}
     pieces = re.split(r"\{\{([a-z]+)\}\}", _read("page.html"))
     pieces[::2] = (_PART.sub(lambda it: parts[it[1]], piece) for piece in pieces[::2])
     return pieces
+
+
+def style_of(names: Iterable[str]) -> str:
+    """The styles with these names, as text of an element."""
+    return f"\n{_stripped(_files(names, 'css'))}\n"
 
 
 def _files(names: Iterable[str], kind: str) -> str:
@@ -114,6 +120,7 @@ def _ascii(script: str) -> str:
     return re.sub(r"[^\x00-\x7f]", lambda it: f"\\u{ord(it[0]):04x}", script)
 
 
-def _hash(text: str) -> str:
+def hash_of(text: str) -> str:
+    """What a content security policy says of the text of a style or a script."""
     digest = base64.b64encode(hashlib.sha256(text.encode("ascii")).digest())
     return f"sha256-{digest.decode()}"
