@@ -54,12 +54,12 @@ class Channel:
         """START SUBCHANNEL on a copy of the storage of an area, with the channel program at this
         address or label. A disk seeks to the track, or raises `BadNumber`. Returns the condition
         code: 0 started, 1 status pending, 2 a program runs."""
-        code, at = ctypes.c_uint32(), address_of(start, area.labels)
+        # first, since an area with a label that is not laid out has no bytes
+        code, at, image = ctypes.c_uint32(), address_of(start, area.labels), bytes(area)
         with self._calls.lock:
             values = at, cylinder, head, file_mask
             self._calls.call("channel_start", self.number, *values, code)
             if code.value == 0:
-                image = bytes(area)
                 self._storage = ctypes.create_string_buffer(image, len(image))
                 self._base, self._labels = area.base, area.labels
         return code.value

@@ -75,6 +75,18 @@ class Channels(unittest.TestCase):
         self.assertEqual(first.test().csw, Csw(0x2008, 0x0D, 0x00, 4))
         self.assertEqual((tape.place.passed, tape.count_entries()), (0, 0))
 
+    def test_area_that_lacks_a_label(self):
+        """It starts nothing, and the storage of the program before stays."""
+        self.channel.start(read_record(), cylinder=1)
+        self.channel.run()
+        self.channel.test()
+        area = Area(0x2000)
+        area.program(Ccw(Op.RD, "NOWHERE", count=4))
+        with self.assertRaises(ValueError):
+            self.channel.start(area)
+        self.assertEqual((self.channel.run(), self.channel.at("BUFFER", 4)), (ChannelRun(0, False), b"DATA"))
+        self.assertEqual(self.channel.start(read_record()), 0)
+
     def test_mistakes(self):
         with self.assertRaises(excp.BadNumber):
             self.channel.start(read_record(), cylinder=2)
