@@ -3,7 +3,7 @@
 from __future__ import annotations
 
 from dataclasses import dataclass, field
-from typing import Callable, Dict, Iterable, Optional, Sequence, Union
+from typing import Callable, Dict, Iterable, List, Optional, Sequence, Union
 
 from .area import Area
 from .blocks import Address, Extent
@@ -19,9 +19,13 @@ _NOTHING = {Kind.QUIET, Kind.HELD, Kind.BUSY, Kind.IDLE, Kind.ROW_FULL}
 
 @dataclass(frozen=True)
 class LoggedEvent:
-    """An event that another program logged: a word of `EVENTS`, its unit, and what else it has.
-    `answer` is the text of its answer, as `Ended 0 0 1 7F`, for `open` the number of the DCB, and
-    for `issue` the name of the request. Without one, any answer that changes something is right."""
+    """An event that another program logged: its word, its unit, and what else it has. The words
+    are `open`, `issue`, `take`, `start`, `run`, `interrupt`, `deliver`, `purge`, `purge_task`,
+    `close` and `reset`. `commands` is how many a run did, not how many it was allowed.
+
+    `answer` is the text of its answer, as `Ended 0 0 1 7F`. It is the number of the DCB for `open`,
+    the name of the request for `issue`, and `Reset` for `reset`. Without one, any answer that
+    changes something is right."""
 
     word: str
     unit: int
@@ -54,20 +58,29 @@ def judge(
 ) -> Optional[Verdict]:
     """Plays a log on a fresh site with its units mounted. Returns the first event that is not
     lawful, or whose post differs from the one logged; or None. Posts are judged if they are given,
-    in any order. Each is collected when it is delivered, so no post row fills. Raises KeyError for
-    a word that is none of `EVENTS`."""
-    logged = None if posts is None else {it.name: it for it in posts}
+    in any order; a second one of a request is a fault. Each is collected when it is delivered, so
+    no post row fills. Raises KeyError for another word, and ValueError for an unknown label."""
+    logged = None if posts is None else _by_name(posts)
     place = 0
     for place, event in enumerate(events, 1):
         reason = _played(site, event, logged)
         if reason:
             return Verdict(place - 1, f"{event}: {reason}")
-    if logged:
-        return Verdict(place, f"the log has a post of {min(logged)}, and it was not delivered")
+    left = [name for name, more in logged.items() if more] if logged else []
+    if left:
+        return Verdict(place, f"the log has a post of {min(left)}, and it was not delivered")
     return None
 
 
-def _played(site: Site, event: LoggedEvent, logged: Optional[Dict[Name, Post]]) -> str:
+def _by_name(posts: Iterable[Post]) -> Dict[Name, List[Post]]:
+    """The posts of each request. A second one is a fault, so none may hide another."""
+    found: Dict[Name, List[Post]] = {}
+    for it in posts:
+        found.setdefault(it.name, []).append(it)
+    return found
+
+
+def _played(site: Site, event: LoggedEvent, logged: Optional[Dict[Name, List[Post]]]) -> str:
     """What is wrong with an event, which is played. The post of a delivery is taken out."""
     try:
         answer = EVENTS[event.word](site, event)
@@ -84,13 +97,14 @@ def _played(site: Site, event: LoggedEvent, logged: Optional[Dict[Name, Post]]) 
     if answer.kind != Kind.DELIVERED or not answer.name:
         return ""
     post = site.post(answer.name.task)
-    return "" if logged is None else _difference(post, logged.pop(post.name, None))
-
-
-def _difference(post: Post, logged: Optional[Post]) -> str:
-    """How a post differs from the one that was logged."""
     if logged is None:
-        return f"the log has no post of {post.name}"
+        return ""
+    waiting = logged.get(post.name)
+    return _difference(post, waiting.pop(0)) if waiting else f"the log has no post of {post.name}"
+
+
+def _difference(post: Post, logged: Post) -> str:
+    """How a post differs from the one that was logged."""
     one, other = str(logged), str(post)
     if one != other:
         return f"the log has {one}, and the supervisor {other}"

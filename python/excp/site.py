@@ -7,7 +7,7 @@ from typing import Any, Dict, Iterable, List, Optional, Tuple, Union
 
 from . import library
 from .area import MOST_BYTES, Area
-from .blocks import Address, Csw, code_of
+from .blocks import Address, Csw, address_of, code_of
 from .calls import Calls
 from .errors import NoPost, Status
 from .posts import Post
@@ -155,16 +155,17 @@ class Site:
 
     def issue(self, task: int, dcb: Dcb, area: Area, iob: Address = "IOB") -> Name:
         """Issues a request on a copy of the storage of an area, with the IOB at this address or
-        label. The answer is its name. Raises ValueError for a DCB of another site."""
+        label. The answer is its name. Raises ValueError for a DCB of another site, and for a label
+        that the area does not have."""
         unit = dcb.unit
         if unit.site is not self:
             raise ValueError(f"{dcb!r} is one of another site")
-        found, at = ctypes.c_uint64(), area[iob] if isinstance(iob, str) else iob
-        storage = area.base, bytes(area)
+        labels, found = area.labels, ctypes.c_uint64()
+        at, storage = address_of(iob, labels), (area.base, bytes(area))
         with self.calls.lock:
             self.calls.call_with_reason("issue", task, unit.number, dcb.number, at, *storage, found)
             name = Name(task, unit.number, found.value)
-            self._areas[name] = area.labels, storage[1]
+            self._areas[name] = labels, storage[1]
         return name
 
     def next_post(self, task: int) -> Optional[Post]:

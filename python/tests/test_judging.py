@@ -123,6 +123,16 @@ class Logs(unittest.TestCase):
                 more = dataclasses.replace(posts[0], name=Name(0, 0, 99))
                 self.assertEqual(judged(events, [*posts, more]), Verdict(len(events), "the log has a post of 0 0 99, and it was not delivered"))
 
+    def test_a_second_post(self):
+        """Of a request that was posted once: the first is compared, and the second is left, whichever of them is right."""
+        for events, posts in self.logs:
+            for post in posts[:2]:
+                other = dataclasses.replace(post, code=Code(0x42))
+                left = Verdict(len(events), f"the log has a post of {post.name}, and it was not delivered")
+                self.assertEqual(judged(events, [*posts, post]), left)
+                self.assertEqual(judged(events, [*posts, other]), left)
+                self.assertIn(f"the log has post {post.name} 42 ", judged(events, [other, *posts]).reason)
+
     def test_an_event_that_lacks(self):
         """Without a start, the next event of its program does nothing, or something else."""
         for events, posts in self.logs:

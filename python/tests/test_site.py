@@ -384,6 +384,8 @@ class Requests(unittest.TestCase):
                 other.issue(0, dcb, read_record())
             with self.assertRaisesRegex(ValueError, "of another site"):
                 other.issue(0, disk.dcb(1), read_record())
+            with self.assertRaisesRegex(ValueError, "the area has no label 'NOWHERE'"):
+                site.issue(0, dcb, read_record(), "NOWHERE")
             self.assertEqual((disk.state.in_flight, other.units[0].state.in_flight), (0, 0))
 
     def test_posts_as_text_have_names(self):
