@@ -12,7 +12,7 @@
  * Reasons. If a mount, excp_open or excp_issue returns EXCP_BAD_GEOMETRY, EXCP_BAD_MEDIUM, EXCP_BAD_IMAGE, or one from
  * EXCP_BAD_EXTENT to EXCP_WRONG_DCB, the site makes the reason in words, as "record 2: a key has at most 255 bytes, not 300".
  * excp_made_length says how long it is, and excp_copy_out copies it. Records, items, faults and extents count from 0. If memory ran
- * out, its length is 0.
+ * out, its length is 0. After any other status, what is there is an older reason, or what was made: EXCP_BAD_NUMBER has no reason.
  *
  * Pointers. Each call tests its pointers for NULL (EXCP_NULL_POINTER). A pointer to bytes may be NULL if their length is 0.
  *
@@ -58,7 +58,7 @@ typedef enum excp_status {
     EXCP_BAD_GEOMETRY = 11,  /* the size of a disk, a tape or a printer */
     EXCP_BAD_MEDIUM = 12,    /* what was put is not of the medium, or does not fit it; or the unit has another device */
     EXCP_BAD_IMAGE = 13,     /* an image breaks a rule of its format, or has more than the tape */
-    EXCP_NO_IMAGE = 14,      /* excp_make_image: no model of a disk has as many heads and bytes a track */
+    EXCP_NO_IMAGE = 14,      /* excp_make_image: no model of a disk has as many heads and bytes a track (docs/FORMATS.md, "CKD_P370") */
     EXCP_BAD_EXTENT = 15,    /* an extent is not one of the device, or is not 16 bytes */
     EXCP_AREA_MISALIGNED = 16, /* the base of the storage is not a multiple of 8 */
     EXCP_AREA_TOO_LONG = 17, /* the storage has over 8,192 bytes */
@@ -392,12 +392,14 @@ excp_status excp_copy_out(excp_site *site, size_t from, uint8_t *bytes, size_t l
 /* ---- The channel alone ------------------------------------------------------------------------------------------------ */
 
 /* For an emulator that has a supervisor of its own: START, TEST and HALT SUBCHANNEL on a copy of the device of a unit, as it is now.
- * Channels count from 0; their devices are apart from the units, and are freed with the site. EXCP_NOTHING_THERE: there is no such
- * channel. Condition codes are those of Principles of Operation, chapter 14. */
+ * Channels count from 0; their devices are apart from the units, and are freed with the site. No call shows where such a device is,
+ * or makes an image of its medium: only its programs read it. EXCP_NOTHING_THERE: there is no such channel. Condition codes are those
+ * of Principles of Operation, chapter 14. */
 excp_status excp_channel_new(excp_site *site, uint16_t unit, uint32_t *channel);
 
 /* START SUBCHANNEL: seeks a disk to this track (EXCP_BAD_NUMBER: it has none, or the address has more than 24 bits), sets its file
- * mask, and starts the program at an address. `code`: 0 started, 1 status pending, 2 a program runs. */
+ * mask (X'18' allows all writes, X'58' none), and starts the program at an address. A tape and a printer have no track and no mask.
+ * `code`: 0 started, 1 status pending, 2 a program runs. */
 excp_status excp_channel_start(excp_site *site, uint32_t channel, uint32_t start, uint16_t cylinder, uint16_t head, uint8_t file_mask,
                                uint32_t *code);
 

@@ -10,7 +10,7 @@ except ImportError:  # it is not installed: take it from the repository
     sys.path.insert(0, os.path.join(os.path.dirname(os.path.realpath(__file__)), "..", "..", "python"))
     import excp
 
-from excp import Area, Ccw, Code, Extent, Flag, Op, Record, Seek
+from excp import Area, Ccw, Code, Extent, Flag, LoggedEvent, Op, Record, Seek
 
 
 def a_disk(site, faults=()):
@@ -81,6 +81,22 @@ def test_purge_halts_an_active_program():
         assert str(dcb.purge(excp.Mode.HALT)) == "Active 0 0 1"
         disk.serve()
         assert site.post(0).code == Code.PURGED
+
+
+def test_log_of_another_program_is_judged():
+    """It reports an error, and the supervisor finds none."""
+    with excp.Site() as site:
+        _, dcb = a_disk(site)
+        log = [
+            LoggedEvent("issue", 0, "0 0 1", dcb=1, area=rewrite(dcb, 1, b"CHANGED.")),
+            LoggedEvent("take", 0, "Took 0 0 1"),
+            LoggedEvent("start", 0, "Started 0 0 1"),
+            LoggedEvent("run", 0, commands=4),
+            LoggedEvent("interrupt", 0, "Ended 0 0 1 41"),
+        ]
+        found = excp.judge(site, log)
+        assert found.place == 4
+        assert found.reason.endswith("the log has Ended 0 0 1 41, and the supervisor Ended 0 0 1 7F")
 
 
 if __name__ == "__main__":

@@ -30,8 +30,9 @@ class ChannelRun:
 
 
 class Channel:
-    """A channel with a copy of the device of a unit, as it is when the channel is made. Condition
-    codes are those of Principles of Operation, chapter 14."""
+    """A channel with a copy of the device of a unit, as it is when the channel is made. Only the
+    programs of the channel read its medium; it is freed with the site. Condition codes are those of
+    Principles of Operation, chapter 14."""
 
     def __init__(self, unit: Unit) -> None:
         number = ctypes.c_uint32()
@@ -41,6 +42,9 @@ class Channel:
         # the storage of the program that was started, where it lies, and its labels
         self._storage, self._base = ctypes.create_string_buffer(0), 0
         self._labels: Dict[str, int] = {}
+
+    def __repr__(self) -> str:
+        return f"<Channel {self.number}>"
 
     def start(
         self,
@@ -52,8 +56,9 @@ class Channel:
         file_mask: int = 0,
     ) -> int:
         """START SUBCHANNEL on a copy of the storage of an area, with the channel program at this
-        address or label. A disk seeks to the track, or raises `BadNumber`. Returns the condition
-        code: 0 started, 1 status pending, 2 a program runs."""
+        address or label. A disk seeks to the track, or raises `BadNumber`; the mask X'18' allows
+        all writes, and X'58' none. Returns the condition code: 0 started, 1 status pending, 2 a
+        program runs."""
         # first, since an area with a label that is not laid out has no bytes
         code, at, image = ctypes.c_uint32(), address_of(start, area.labels), bytes(area)
         with self._calls.lock:

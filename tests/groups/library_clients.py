@@ -430,7 +430,7 @@ def is_installed(*how):
         require(where.out.startswith(expected), f"the package is not in {expected}", where)
         shutil.copy(EXAMPLE, folder)
         ran = run([python, "-B", f"{folder}/{os.path.basename(EXAMPLE)}"], env=environment, cwd=folder)
-        require((ran.status, ran.err) == (0, "") and ran.out.count(": passed\n") == 4, "the example fails", ran)
+        require((ran.status, ran.err) == (0, "") and ran.out.count(": passed\n") == 5, "the example fails", ran)
         code, due = (re.sub("(?m)^    ", "", it) for it in PAGE_BLOCK.findall(read(f"{TOP}/python/README.md")))
         expect(run([python, "-B", "-c", code], env=environment, cwd=folder), (0, due, ""))
 
