@@ -408,8 +408,9 @@ typedef struct excp_channel_ran {
     uint32_t pending;  /* 1 if a status is pending */
 } excp_channel_ran;
 
-/* The program runs for at most `max_commands` commands, at least 1, on storage that lies at `base`, and changes it. If none runs, no
- * command is done. Give each run of a program the storage as the run before left it. */
+/* The program runs for at most `max_commands` commands, at least 1, on storage that lies at `base`, and changes it. As that of a
+ * request, it has at most 8,192 bytes, and `base` is a multiple of 8. If no program runs, no command is done. Give each run of a
+ * program the storage as the run before left it. */
 excp_status excp_channel_run(excp_site *site, uint32_t channel, uint32_t max_commands, uint32_t base, uint8_t *storage, size_t length,
                              excp_channel_ran *ran);
 
