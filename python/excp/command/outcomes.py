@@ -51,8 +51,9 @@ def add_arguments(parser: argparse.ArgumentParser) -> None:
 
 def run(given: argparse.Namespace) -> int:
     from ..outcomes.looks import Limits
+    from ..outcomes.wanted import Wanted
     from .library import use_library
-    from .told_outcomes import Wanted, carry_out
+    from .told_outcomes import carry_out
 
     check_exclusions(given, _EXCLUSIONS)
     words = words_of(whole=given.whole, media=given.media, unreduced=given.no_reductions)

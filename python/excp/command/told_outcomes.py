@@ -15,17 +15,17 @@ from ..files.refusals import Unwritten
 from ..outcomes.bench import Bench
 from ..outcomes.fixing import fixed
 from ..outcomes.job import NumberedJob, Request
-from ..outcomes.looks import Limits, Look, first_look, look_in_place
+from ..outcomes.looks import Look, first_look, look_in_place
 from ..outcomes.page import Pictures, page_of
 from ..outcomes.running import running
 from ..outcomes.scenarios import scenario_of
 from ..outcomes.search import Found, Search, SearchEnded
-from ..outcomes.summary import Counts, Told, Verdict, told_verdict, verdict_of
+from ..outcomes.summary import Told, Verdict, told_verdict, verdict_of
 from ..outcomes.tally import Tally, shares
 from ..outcomes.telling import Asked, Keeper, Teller
 from ..outcomes.told_media import MediaTeller
+from ..outcomes.wanted import Wanted
 from ..programs.telling import note
-from ..stepping.schedule import TURN
 from .fix_file import FixFile, fix_file
 from .handing import handed, name_in_texts
 from .options import words_of
@@ -35,45 +35,6 @@ from .streams import FAILED, REJECTED, Ended, of_file, say_removed, write_at_onc
 from .tool_run import said
 from .tools import PROGRAM, Order
 from .whole_script import WholeScript
-
-
-# How many runs by seeds a search is compared with, unless said otherwise: so many, but no more than
-# make so many requests; one at least.
-_SEEDS, _MOST_RUN = 20, 8_000
-
-
-@dataclass(frozen=True)
-class Wanted:
-    """What is asked of the outcomes, as its options say it."""
-
-    limits: Limits
-    seeds: Optional[int]
-    often: Optional[int]
-    has_wholes: bool
-    has_media: bool
-    is_reduced: bool
-    tells_all: bool
-    outcome: Optional[Sequence[int]]
-    allow: Optional[Sequence[str]]
-    fix: Optional[str]
-    has_page: bool
-    title: str
-
-    @property
-    def counts(self) -> Counts:
-        """What the last line says of the search."""
-        return Counts(self.has_wholes, self.is_reduced)
-
-    def seeds_for(self, requests: int) -> int:
-        """How many runs by seeds a search of a job with so many requests is compared with."""
-        if self.seeds is not None:
-            return self.seeds
-        return min(_SEEDS, max(1, _MOST_RUN // max(1, requests)))
-
-    @property
-    def turn_of_seeds(self) -> int:
-        """The most commands of a turn in runs by seeds, as `report --seed` has it."""
-        return self.limits.turn or TURN
 
 
 def carry_out(order: Order, source: WholeScript, wanted: Wanted) -> int:

@@ -51,8 +51,8 @@ class Bench:
     def witness(
         self, steps: Sequence[str], request: Request, outcome: Outcome
     ) -> Optional[Witness]:
-        """What steps lead to, up to the post of a request, if it is this outcome. Before a wait that
-        cannot go on yet, posts are delivered and collected, and so is that post at the end."""
+        """What steps lead to, up to the post of a request, if it is this outcome. Before a wait
+        that cannot go on yet, posts are delivered and collected, and so is that post at the end."""
         with _Rerun(self, request.name) as run:
             run.all(steps)
             is_it = run.has_target and run.posts[-1].split(" ", 4)[4] == outcome.text

@@ -1,6 +1,6 @@
-"""Outcomes as one HTML page: of each request that has several, each outcome beside the usual one, step
-by step, with what differs marked. It has no script, and its content security policy allows its own
-style alone."""
+"""Outcomes as one HTML page: of each request that has several, each outcome beside the usual one,
+step by step, with what differs marked. It has no script, and its content security policy allows its
+own style alone."""
 
 from __future__ import annotations
 
@@ -17,12 +17,14 @@ _MANY = "too many steps to be printed"
 # The code of a request that ended without error, beside which the others are put.
 _USUAL = "7F"
 
+_POLICY = "default-src 'none'; base-uri 'none'; form-action 'none'"
+
 _HEAD = """<!DOCTYPE html>
 <html lang="en">
 <head>
 <meta charset="utf-8">
 <meta name="viewport" content="width=device-width, initial-scale=1">
-<meta http-equiv="Content-Security-Policy" content="default-src 'none'; base-uri 'none'; form-action 'none'; style-src '{hash}'">
+<meta http-equiv="Content-Security-Policy" content="{policy}; style-src '{hash}'">
 <title>{title}: outcomes</title>
 <style>{style}</style>
 </head>
@@ -70,7 +72,8 @@ def page_of(pictures: Pictures, title: str, last: str) -> Iterator[str]:
     """The page of outcomes in pieces. `last` is the last line of the text."""
     style = style_of(["page", "outcomes"])
     told = escaped(title)
-    yield _HEAD.format(title=told, last=escaped(last.strip()), style=style, hash=hash_of(style))
+    says = {"policy": _POLICY, "hash": hash_of(style), "style": style}
+    yield _HEAD.format(title=told, last=escaped(last.strip()), **says)
     for request, outcomes in pictures.outcomes.items():
         yield from _section(request, outcomes)
     yield _FOOT.format(title=told, text=escaped("".join(pictures.texts), keeps="\n"))
