@@ -156,10 +156,12 @@ def has_its_script(setup):
 
 
 def viewer_is_whole():
-    """The page has each file of the viewer. No text of a script has several lines, which are stripped, or could end the element."""
+    """Pages have each file of the viewer. No text of a script has several lines, which are stripped, or could end the element."""
+    from excp.outcomes import page as outcomes_page
     from excp.reporting import page
 
-    files = {f"{name}.css" for name in page.STYLES} | {f"{name}.js" for name in page.SCRIPTS} | {"page.html"}
+    styles = {*page.STYLES, *outcomes_page.STYLES}
+    files = {f"{name}.css" for name in styles} | {f"{name}.js" for name in page.SCRIPTS} | {"page.html"}
     require(files == set(os.listdir(VIEWER)), f"not in both: {sorted(files ^ set(os.listdir(VIEWER)))}")
     for name in files:
         text = read(f"{VIEWER}/{name}")

@@ -17,6 +17,8 @@ _MANY = "too many steps to be printed"
 # The code of a request that ended without error, beside which the others are put.
 _USUAL = "7F"
 
+STYLES = "page", "outcomes"
+
 _POLICY = "default-src 'none'; base-uri 'none'; form-action 'none'"
 
 _HEAD = """<!DOCTYPE html>
@@ -70,7 +72,7 @@ class Pictures:
 
 def page_of(pictures: Pictures, title: str, last: str) -> Iterator[str]:
     """The page of outcomes in pieces. `last` is the last line of the text."""
-    style = style_of(["page", "outcomes"])
+    style = style_of(STYLES)
     told = escaped(title)
     says = {"policy": _POLICY, "hash": hash_of(style), "style": style}
     yield _HEAD.format(title=told, last=escaped(last.strip()), **says)
