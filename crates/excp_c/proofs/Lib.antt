@@ -1,3 +1,4 @@
 mod Fields
 mod LooseValues
+pub mod Reasons
 mod SlotValues

@@ -1,5 +1,5 @@
 -- WHAT A CALL DID: what the call of the site does (excp_site), or why the site refused it.
-use Rattle.std.specs.Prelude.{◌≡◌, ◌≤◌, ◌<◌, ◌⊎◌, ℕ, MatchOption, Option, Some, None, List, length, slice_get}
+use Rattle.std.specs.Prelude.{◌≡◌, ◌≤◌, ◌<◌, ◌⊎◌, ℕ, false, MatchOption, Option, Some, None, List, length, slice_get}
 use Rattle.io_area.specs.Storage.{Storage}
 use Rattle.io_images.specs.declared.extent.Extent.{Extent}
 use Rattle.any_device.specs.Devices.{any_device}
@@ -23,14 +23,13 @@ use Rattle.unit_book.specs.Settle.{IsIdle}
 use Rattle.unit_world.specs.Parts.{PartTakes}
 use Rattle.unit_world.specs.PostLists.{list_of}
 use Rattle.unit_world.specs.Sites.{CollectsPost, DeliversAs, OnBook, OnUnit}
-use Rattle.excp_site.specs.Imaging.{LeavesMade}
 use Rattle.excp_site.specs.Media.{IsEmpty}
 use Rattle.excp_site.specs.declared.refusal.Refusal.{Refusal}
 use Rattle.excp_site.specs.declared.refusal.Refusal.TheVariants.{NoMemory}
 use Rattle.excp_site.specs.Serving.{HasSettled, IsServedFor}
 use Rattle.excp_site.specs.declared.served.Served.{Served}
 use Rattle.excp_site.specs.Extents.{extents_in}
-use Rattle.excp_site.specs.Reasons.{LeavesReason}
+use Rattle.excp_site.specs.Reasons.{LeavesReason, has_reason}
 use Rattle.excp_site.specs.Refusals.{ExtentsRefused, OpenCallLeaves, OpenCallRefused}
 use Rattle.excp_site.specs.Sites.{AddsUnit, HasPart, IssuesRequest, MakesSite, NewRefused, SiteView, number_of}
 use Rattle.excp_c.specs.Answers.{answer_in_c}
@@ -95,10 +94,14 @@ PutsNoItem s t e = (e ≡ NoMemory) × (t.medium.items.items ≡ s.medium.items.
 abbrev pub PutsNoFault : SiteView → SiteView → Refusal → Type 0
 PutsNoFault s t e = (e ≡ NoMemory) × (t.medium.faults.items ≡ s.medium.faults.items) × OnlyFaults s t
 
+-- units and tasks differ, and the bytes that were made last, if the refusal has a reason
+abbrev pub LeavesOpened : SiteView → SiteView → Refusal → Type 0
+LeavesOpened s t e = (t ≡ record s { plain = t.plain; made = t.made }) × (has_reason e ≡ false → t.made ≡ s.made)
+
 -- a DCB is not opened: its extents are none, or the site says why, and what it leaves; the reason is kept in words
 abbrev pub NotOpened : SiteView → SiteView → ℕ → List ℕ → Refusal → Type 0
 NotOpened s t unit bytes e = (ExtentsRefused bytes e × LeavesReason s t e)
-    ⊎ ((m : SiteView) × OnlyPlain s m × OpenCallLeaves s.plain unit m.plain e × LeavesReason m t e × OpenCallRefused s.plain unit (extents_in bytes) e)
+    ⊎ (OpenCallRefused s.plain unit (extents_in bytes) e × OpenCallLeaves s.plain unit t.plain e × LeavesOpened s t e)
 
 -- THE EVENTS of a unit
 abbrev pub SiteTakes : ℕ → SiteView → Intake → SiteView → Type 0
@@ -143,10 +146,6 @@ Mounts device in_flight held unit s t = AddsUnit s device None in_flight held un
 -- a call was refused, for a reason of which this holds, and which is kept in words
 abbrev pub RefusedAs : Handle → Handle → ℕ → (SiteView → Refusal → Type 0) → Type 0
 RefusedAs h k status Why = Refused h k status (λ s t e. Why s e × LeavesReason s t e)
-
--- an image was refused: the rule that it breaks is kept in words, or the reason
-abbrev pub ImageRefusedAs : Handle → Handle → ℕ → (SiteView → Refusal → Type 0) → Type 0
-ImageRefusedAs h k status Why = Refused h k status (λ s t e. (m : SiteView) × LeavesMade s m e × LeavesReason m t e × Why s e)
 
 -- A REQUEST was issued, and its number was written out
 abbrev pub IssuesAs : ℕ → ℕ → ℕ → ℕ → Storage → ℕ → SiteView → SiteView → Type 0

@@ -25,6 +25,7 @@ fn method_from_c(number: u8) -> Option<ProcessingMethod>
 }
 
 /// `excp_open`.
+#[tactic(auto, using(crate::proofs::Reasons::not_opened))]
 #[unsafe(no_mangle)]
 pub extern "C" fn excp_call_open(
     alloc: Global,

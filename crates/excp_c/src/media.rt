@@ -9,7 +9,7 @@ ghost use Rattle.line_printer.specs.Mount.{opening as opening_printer};
 ghost use Rattle.excp_site.specs.Imaging.{AwsRefused, CkdRefused, MountsAws, MountsCkd};
 ghost use Rattle.excp_site.specs.Media.{IsEmpty, PutsItem, PutsRecord};
 ghost use Rattle.excp_site.specs.Mounting.{DiskRefused, DiskTaken, PrinterRefused, PrinterTaken, TapeRefused, TapeTaken};
-ghost use Rattle.excp_c.specs.Done.{Did, ImageRefusedAs, PutsNoFault, PutsNoItem, PutsNoRecord, Mounts, OnlyFaults, OnlyItems, OnlyMedium, OnlyRecords, Refused, RefusedAs};
+ghost use Rattle.excp_c.specs.Done.{Did, PutsNoFault, PutsNoItem, PutsNoRecord, Mounts, OnlyFaults, OnlyItems, OnlyMedium, OnlyRecords, Refused, RefusedAs};
 ghost use Rattle.excp_c.specs.Numbers.{fault_from_c};
 ghost use Rattle.excp_c.specs.Calls.{KeepsSite, SameSite, TestsSite};
 
@@ -230,6 +230,7 @@ pub extern "C" fn excp_call_mount_printer(
 }
 
 /// `excp_mount_ckd`.
+#[tactic(auto, using(crate::proofs::Reasons::image_refused))]
 #[unsafe(no_mangle)]
 pub extern "C" fn excp_call_mount_ckd(
     handle: &mut Handle,
@@ -240,7 +241,7 @@ pub extern "C" fn excp_call_mount_ckd(
     ensures site { TestsSite handle.old result }
     ensures keeps { KeepsSite handle.old handle.new }
     ensures done { result ≡ 0 → Did handle.old handle.new (λ s t. MountsCkd s image.now room.now.in_flight room.now.held unit.new t × IsEmpty t.medium) }
-    ensures why { result ≢ 0 → result ≢ 3 → ImageRefusedAs handle.old handle.new result (λ s. CkdRefused s image.now room.now.in_flight room.now.held) }
+    ensures why { result ≢ 0 → result ≢ 3 → RefusedAs handle.old handle.new result (λ s. CkdRefused s image.now room.now.in_flight room.now.held) }
     ensures refused { result ≢ 0 → unit.new ≡ unit.old }
     ensures none { result ≡ 3 → SameSite handle.old handle.new }
 {
@@ -260,6 +261,7 @@ pub extern "C" fn excp_call_mount_ckd(
 }
 
 /// `excp_mount_aws`.
+#[tactic(auto, using(crate::proofs::Reasons::image_refused))]
 #[unsafe(no_mangle)]
 pub extern "C" fn excp_call_mount_aws(
     handle: &mut Handle,
@@ -271,7 +273,7 @@ pub extern "C" fn excp_call_mount_aws(
     ensures site { TestsSite handle.old result }
     ensures keeps { KeepsSite handle.old handle.new }
     ensures done { result ≡ 0 → Did handle.old handle.new (λ s t. MountsAws s image.now bytes room.now.in_flight room.now.held unit.new t × IsEmpty t.medium) }
-    ensures why { result ≢ 0 → result ≢ 3 → ImageRefusedAs handle.old handle.new result (λ s. AwsRefused s image.now bytes room.now.in_flight room.now.held) }
+    ensures why { result ≢ 0 → result ≢ 3 → RefusedAs handle.old handle.new result (λ s. AwsRefused s image.now bytes room.now.in_flight room.now.held) }
     ensures refused { result ≢ 0 → unit.new ≡ unit.old }
     ensures none { result ≡ 3 → SameSite handle.old handle.new }
 {
