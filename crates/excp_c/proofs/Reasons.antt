@@ -54,6 +54,6 @@ not_opened s m t unit bytes e refused leaves only left =
       refused,
       subst (λ (p : SiteState AnyDevice). OpenCallLeaves s.plain unit p e) (sym plain) leaves,
       left.0 ∙ ap (λ (x : SiteView). record x { made = t.made }) only
-      ∙ ap (λ (p : SiteState AnyDevice). record s { plain = p; made = t.made }) (sym plain),
-      λ h. ap (λ (x : SiteView). x.made) (left.1 h) ∙ ap (λ (x : SiteView). x.made) only
+          ∙ ap (λ (p : SiteState AnyDevice). record s { plain = p; made = t.made }) (sym plain),
+      λ h. ap (λ (x : SiteView). x.made) (left.1 h) ∙ ap (λ (x : SiteView). x.made) only,
     )
