@@ -87,6 +87,51 @@ class Channels(unittest.TestCase):
         self.assertEqual((self.channel.run(), self.channel.at("BUFFER", 4)), (ChannelRun(0, False), b"DATA"))
         self.assertEqual(self.channel.start(read_record()), 0)
 
+    def test_as_it_is(self):
+        """A channel begins where its unit's tape is then, and neither moves the other: also over a checkpoint."""
+        tape = self.site.tape(items=[b"ONE.", b"TWO.", b"END."], length=100)
+        dcb = tape.open()
+        read = Ccw(Op.RDF, "BUFFER", count=4)
+
+        def unit_reads():
+            area = Area(0x1000)
+            area.iob(dcb=dcb)
+            area.ecb()
+            area.program(read)
+            area.space("BUFFER", 4)
+            self.site.issue(0, dcb, area)
+            tape.serve()
+            return self.site.post(0).at("BUFFER", 4)
+
+        area = Area(0x2000)
+        area.program(Ccw(Op.RDF, "BUFFER", Flag.CC, 4), read)
+        area.space("BUFFER", 4)
+        self.assertEqual(unit_reads(), b"ONE.")
+        channel = Channel(tape)
+        self.assertEqual((channel.start(area), channel.run(1), channel.at("BUFFER", 4)), (0, ChannelRun(1, False), b"TWO."))
+        self.assertEqual(unit_reads(), b"TWO.")
+        tape.checkpoint()
+        self.assertEqual((channel.run(), channel.at("BUFFER", 4)), (ChannelRun(1, True), b"END."))
+        self.assertEqual((channel.test().csw, unit_reads()), (Csw(0x2010, 0x0C, 0x00, 0), b"END."))
+
+    def test_track_and_mask(self):
+        """The seek goes to cylinder 1, head 2; a file mask of 40 inhibits all writes, one of C0 none."""
+        disk = self.site.disk(cylinders=2, heads=3, track_bytes=64, records=[Record(1, 2, 1, b"OLD.")])
+        channel = Channel(disk)
+        area = Area(0x1000)
+        area.program(Ccw(Op.SIDE, "ID", Flag.CC, 5), Ccw(Op.TIC, "CP"), Ccw(Op.WD, "DATA", count=4))
+        area.data("ID", bytes([0, 1, 0, 2, 1]))
+        area.data("DATA", b"NEW.")
+        for mask, csw, sense in (0x40, Csw(0x1018, 0x0E, 0x00, 4), 0x8000), (0xC0, Csw(0x1018, 0x0C, 0x00, 0), 0):
+            self.assertEqual(channel.start(area, cylinder=1, head=2, file_mask=mask), 0)
+            self.assertTrue(channel.run().is_pending)
+            self.assertEqual(channel.test(), ChannelStatus(0, csw, sense))
+        self.assertEqual(Channel(disk).start(area, cylinder=1, head=2), 0)
+        self.assertEqual(disk.records(1, 2)[1].data, b"OLD.")
+        for cylinder, head in (0, 3), (2, 0):
+            with self.assertRaises(excp.BadNumber):
+                channel.start(area, cylinder=cylinder, head=head)
+
     def test_mistakes(self):
         with self.assertRaises(excp.BadNumber):
             self.channel.start(read_record(), cylinder=2)

@@ -595,6 +595,7 @@ class Mistakes(unittest.TestCase):
                     (Status.BAD_IOB, issue(iob=0x1002), "the IOB at 001002 is not on a fullword boundary"),
                     (Status.BAD_IOB, issue(good[:39]), "the IOB at 001000 does not lie in the storage at 001000"),
                     (Status.BAD_ECB, issue(good[:7] + b"\x20" + good[8:]), "the ECB at 001020 overlaps the IOB"),
+                    (Status.BAD_ECB, issue(good[:6] + b"\x20" + good[7:]), "the ECB at 002028 does not lie in the storage at 001000"),
                     (Status.BAD_PROGRAM, issue(good[:19] + b"\x34" + good[20:]),
                      "the channel program at 001034 is not on a doubleword boundary")):
                 self.rejected(status, bad, call, reason)
@@ -606,11 +607,22 @@ class Mistakes(unittest.TestCase):
             bad = excp.BadMedium
             for status, call, reason in (
                     (Status.BAD_GEOMETRY, lambda: site.disk(**{**disk, "heads": 0}), "a cylinder has at least 1 head"),
+                    (Status.BAD_GEOMETRY, lambda: site.disk(**{**disk, "cylinders": 0}), "a disk has at least 1 cylinder"),
+                    (Status.BAD_GEOMETRY, lambda: site.disk(**{**disk, "cylinders": 65536}), "a disk has at most 65,535 tracks"),
+                    (Status.BAD_GEOMETRY, lambda: site.disk(**{**disk, "cylinders": 1024, "track_bytes": 16385}),
+                     "a disk has at most 16,777,216 bytes"),
                     (Status.BAD_GEOMETRY, lambda: site.printer(lines=0, pages=1), "a printer has 1 to 100,000 lines, not 0"),
+                    (Status.BAD_GEOMETRY, lambda: site.tape_from(b"", length=2**32 + 1), "a tape has at most 4,294,967,296 bytes, not 4294967297"),
                     (Status.BAD_MEDIUM, lambda: site.disk(**disk, records=[Record(0, 0, 1, bytes(17))]),
                      "record 0 does not fit its track, whose records take 41 bytes of 40"),
                     (Status.BAD_MEDIUM, lambda: site.disk(**disk, records=[Record(0, 0, 1, b""), Record(0, 1, 1, b"")]),
                      "record 1: its head is 1, and a cylinder has 1"),
+                    (Status.BAD_MEDIUM, lambda: site.disk(**disk, records=[Record(2, 0, 1, b"")]),
+                     "record 0: its cylinder is 2, and the disk has 1"),
+                    (Status.BAD_MEDIUM, lambda: site.disk(**disk, records=[Record(0, 0, 0, b"")]),
+                     "record 0: its number is 0, which only R0 has"),
+                    (Status.BAD_MEDIUM, lambda: site.disk(**disk, records=[Record(0, 0, 1, bytes(65536))]),
+                     "record 0: data have at most 65,535 bytes, not 65536"),
                     (Status.BAD_MEDIUM, lambda: site.tape(items=[TAPE_MARK, b""]), "item 1: a block has 1 to 65,535 bytes, not 0"),
                     (Status.BAD_MEDIUM, lambda: site.tape(items=[b"12345"], length=8),
                      "item 0 does not fit the tape, whose items take 9 bytes of 8"),
@@ -624,12 +636,13 @@ class Mistakes(unittest.TestCase):
     def test_extents(self):
         with Site() as site:
             disk, _ = a_disk(site)
-            tape = site.tape()
+            tape, wide = site.tape(), site.disk(cylinders=2, heads=1, track_bytes=40)
             for unit, extents, reason in (
                     (disk, [], "a DCB of a disk has 1 to 16 extents, not 0"),
                     (disk, TRACK * 17, "a DCB of a disk has 1 to 16 extents, not 17"),
                     (disk, TRACK + [Extent(0, 0, 0, 1, 2)], "extent 1: an end of it is not on the disk (cylinders: 1, heads: 1)"),
                     (disk, [Extent(0, 0, 0, 0, 2)], "extent 0: it says 2 tracks, and has 1"),
+                    (wide, [Extent(1, 0, 0, 0, 2)], "extent 0: its end lies before its start"),
                     (tape, TRACK, "a DCB of a tape or a printer has no extents")):
                 self.rejected(Status.BAD_EXTENT, excp.ExcpError, lambda u=unit, e=extents: u.open(extents=e), reason)
             self.assertEqual(disk.open(extents=TRACK).number, 2)

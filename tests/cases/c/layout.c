@@ -233,7 +233,7 @@ static void see_channel(excp_site *site)
 {
     GUARDED(excp_channel_ran, ran);
     GUARDED(excp_channel_status, status);
-    uint8_t storage[0x100];
+    uint8_t storage[0x100], before[0x100];
     uint32_t channel = 9, code = 9;
     make(storage, 3, 0x01, 0, 140);
     memset(storage + LENGTH, 0, sizeof storage - LENGTH);
@@ -255,7 +255,11 @@ static void see_channel(excp_site *site)
     OK(excp_channel_test(site, channel, &status.it));
     EXPECT(status.it.code == 1 && status.it.address == 0 && status.it.channel_status == 0 && is_whole(status.guard));
     EXPECT(excp_channel_test(site, 1, &status.it) == EXCP_NOTHING_THERE);
+    memcpy(before, storage, sizeof storage);
     EXPECT(excp_channel_run(site, channel, 1, BASE + 4, storage, sizeof storage, &ran.it) == EXCP_AREA_MISALIGNED);
+    EXPECT(excp_channel_run(site, channel, 0, BASE, storage, sizeof storage, &ran.it) == EXCP_BAD_NUMBER);
+    EXPECT(excp_channel_run(site, 1, 1, BASE, storage, sizeof storage, &ran.it) == EXCP_NOTHING_THERE);
+    EXPECT(memcmp(before, storage, sizeof storage) == 0);
 }
 
 /* The other functions, so that each is linked. */
