@@ -14,7 +14,7 @@ from harness import TOP, Skipped, expect, outcome, read, require, run, without_s
 JOBS = ["docs/TUTORIAL.md"]
 
 # A line that is a command.
-COMMAND = re.compile(r"(?:\$ )?(?:\./|tests/|tools/|cd |rt |job=|head )")
+COMMAND = re.compile(r"(?:\$ )?(?:\./|tests/(?!cases/)|tools/|cd |rt |job=|head )")
 
 # ./excp of a folder in which commands run: it runs the programs that are tested, on a file or with a subcommand, and the package.
 # The job whose outcomes the pages show has several, so its status is 5.
@@ -101,7 +101,7 @@ ANYTHING = "anything"
 # page with a line, or a file of the repository.
 RUN = {
     ("README.md", "./excp step samples/scenarios/halt-an-active-request.scenario | tail"): (NEXT, {}),
-    ("README.md", "./excp describe old.aws"): (NEXT, {"old.aws": "tests/cases/images/w.aws"}),
+    ("README.md", "./excp describe tests/cases/images/w.aws"): (NEXT, {}),
     ("README.md", "./excp outcomes samples/outcomes/a-halt.symbolic | grep"): (NEXT, {}),
     ("README.md", "./excp report --posts - <<'END'"): (NEXT, {}),
     ("samples/README.md", "./excp report samples/read-a-tape.script | grep -v '^# unit\\|^#  '"): (ANYTHING, {}),
