@@ -398,8 +398,8 @@ excp_status excp_copy_out(excp_site *site, size_t from, uint8_t *bytes, size_t l
 excp_status excp_channel_new(excp_site *site, uint16_t unit, uint32_t *channel);
 
 /* START SUBCHANNEL: seeks a disk to this track (EXCP_BAD_NUMBER: it has none, or the address has more than 24 bits), sets its file
- * mask (X'18' allows all writes, X'58' none), and starts the program at an address. A tape and a printer have no track and no mask.
- * `code`: 0 started, 1 status pending, 2 a program runs. */
+ * mask, and starts the program at an address. The supervisor sets the mask 18 for output and 58 for input; with 00 a program may also
+ * seek. A tape and a printer have no track and no mask. `code`: 0 started, 1 a status is pending, 2 a program runs. */
 excp_status excp_channel_start(excp_site *site, uint32_t channel, uint32_t start, uint16_t cylinder, uint16_t head, uint8_t file_mask,
                                uint32_t *code);
 
@@ -410,7 +410,7 @@ typedef struct excp_channel_ran {
 
 /* The program runs for at most `max_commands` commands, at least 1, on storage that lies at `base`, and changes it. As that of a
  * request, it has at most 8,192 bytes, and `base` is a multiple of 8. If no program runs, no command is done. Give each run of a
- * program the storage as the run before left it. */
+ * program the storage as the run before left it. EXCP_AREA_..: storage cannot lie there. No reason is made in words. */
 excp_status excp_channel_run(excp_site *site, uint32_t channel, uint32_t max_commands, uint32_t base, uint8_t *storage, size_t length,
                              excp_channel_ran *ran);
 
@@ -426,7 +426,8 @@ typedef struct excp_channel_status {
 /* TEST SUBCHANNEL: stores the status that is pending, and clears it. */
 excp_status excp_channel_test(excp_site *site, uint32_t channel, excp_channel_status *status);
 
-/* HALT SUBCHANNEL: `code` is 0 if a program that ran, or the idle subchannel, has a status pending now, and 1 if it had before. */
+/* HALT SUBCHANNEL. `code`: 0 the program was halted, and a status is pending now, also if the subchannel was idle; 1 a status was
+ * pending already. */
 excp_status excp_channel_halt(excp_site *site, uint32_t channel, uint32_t *code);
 
 /* ---- Long use -------------------------------------------------------------------------------------------------------- */
