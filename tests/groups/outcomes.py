@@ -56,6 +56,10 @@ WAITED = "48 000000 0000 0000 0000 -"
 FEW = DISK + OPEN + PLAIN + EXCP.format(0, 0) + "purge 1 0 1 halt\n"
 HALTED, HALTED_BETWEEN = (f"48 00{address} 0C00 0000 0000 -" for address in (1030, 1038))
 
+# The same, with requests of its task to a printer and to its unit, which no outcome of it needs.
+BESIDE = (DISK + "printer 1 0 10 5\n" + OPEN + "open 1 out\n" + PLAIN + EXCP.format(0, 0) + "excp 0 1 1 001000 0 001000 0\n"
+          + EXCP.format(0, 0) + "purge 1 0 1 halt\n")
+
 # A related request that finds no record, and one of another task to the same DCB that finds one.
 RELATED = DISK + OPEN + area(0, "40", "09") + area(1, "40", "01") + EXCP.format(0, 0) + EXCP.format(1, 1)
 FAILED = "41 001038 0E00 0005 0008 -"
@@ -422,6 +426,14 @@ def has_many(setup):
         require(outputs == (OUTCOMES_OF_MANY if words else MOST), f"{outputs} whole outputs are printed", ran)
         require((left in ran.out) == (not words), "other whole outputs are left out", ran)
         require(ran.out.endswith(f", {OUTCOMES_OF_MANY} whole outputs)\n"), "they are not counted", ran)
+
+
+def has_short_witnesses(setup):
+    """The steps to an outcome of a request are the same if its task issues others too, which no outcome of it needs."""
+    few = setup.run("outcomes", script=FEW)
+    ran = setup.run("outcomes", script=BESIDE)
+    due = few.out.partition("# line ")[0]
+    require(due.count("post 0 0 1 ") == 4 and ran.out.startswith(due), "the first request has other steps", ran)
 
 
 def prints_chosen(setup):
@@ -834,6 +846,7 @@ def cases(setup):
     yield Case("a search that is cut", lambda: is_cut(setup), ORIGIN)
     yield Case("between all commands", lambda: looks_closely(setup), ORIGIN)
     yield Case("many outcomes", lambda: has_many(setup), ORIGIN)
+    yield Case("short witnesses", lambda: has_short_witnesses(setup), ORIGIN)
     yield Case("one outcome", lambda: prints_chosen(setup), ORIGIN)
     yield Case("hints hold", lambda: hints_hold(setup), ORIGIN)
     yield Case("hints lead to an end", lambda: hints_lead_to_an_end(setup), ORIGIN)
