@@ -193,9 +193,14 @@ def is_same_by_history(first):
                 require(every_order(script, turn)[:2] == by_history[:2], f"by their histories, units come to other posts; of\n{script}")
 
 
+def states_of(last):
+    """How many states a search had, by its last line."""
+    return int(re.search(r"(\d+) states?\b", last)[1])
+
+
 def is_same_without_reductions(setup, first):
-    """Small jobs from this one on have the same outcomes, whole outputs and media if no order is left out."""
-    done = 0
+    """Small jobs from this one on have the same outcomes, whole outputs and media if no order is left out, and then more states."""
+    done = more = 0
     for number in range(first, first + BATCH):
         script = small_job(f"reductions {number}", tasks=2, units=2, requests=3, controls=2, waits=1)
         words = "--all", "--seeds", "0"
@@ -204,12 +209,14 @@ def is_same_without_reductions(setup, first):
         if last.startswith("not all"):
             continue
         require("(turns of 1 command, no reductions, " in last, f"the last line is {last!r}")
-        usual = told_by(setup, script, "--whole", *words)[:2]
+        *usual, reduced = told_by(setup, script, "--whole", *words)
         require(sets_of(told, outputs) == sets_of(*usual), f"without reductions there are other outcomes; of\n{script}")
+        more += states_of(last) - states_of(reduced)
         media = media_by(setup, script, *every)[0]
         require(media == media_by(setup, script, *words)[0], f"without reductions there are other media; of\n{script}")
         done += 1
     require(done * 2 >= BATCH, f"only {done} searches without reductions come to their ends")
+    require(more > 0, f"without reductions there are {more} states more: orders are left out")
 
 
 def sets_of(told, outputs):
