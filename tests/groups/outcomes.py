@@ -611,6 +611,31 @@ def leaves_the_text(setup):
         require((read(job), read(file)) == (SYMBOLIC, SYMBOLIC_FIXED), "a file is no longer what it was")
 
 
+# A request, and two halts: each change puts a wait of task 0 before its line, but after the first wait the second waits for nothing.
+HALTED_TWICE = FEW + "purge 1 0 1 halt\n"
+ONE_WAIT = DISK + OPEN + PLAIN + EXCP.format(0, 0) + "wait 0\n" + 2 * "purge 0 0 1 halt\n"
+
+
+def has_no_idle_wait(setup):
+    """The job that `--fix` writes has no wait of a change that waits for nothing."""
+    with tempfile.TemporaryDirectory() as folder:
+        new, changes = fix_of(setup, HALTED_TWICE, folder)
+    require(new == ONE_WAIT, f"it is changed to\n{new}")
+    require(changed(HALTED_TWICE, changes[:-1])[0] == ONE_WAIT, f"other changes are told: {changes}")
+
+
+def media_are_no_posts(setup):
+    """With `--media`, `--fix` and `--allow` say that a unit has several media, if posts are as they should be."""
+    several = "1 unit has more than one medium"
+    script, _ = MEDIA["two writers"]
+    with tempfile.TemporaryDirectory() as folder:
+        file = f"{folder}/fixed"
+        ran = setup.run("outcomes", "--media", "--allow", "7F", "--fix", file, script=script)
+        require((ran.status, ran.err) == (5, f"excp: --media: {several}\n"), "--allow does not say why", ran)
+        require(f"\n# --fix looks at posts only, and {several}\n" in ran.out, "--fix does not say it", ran)
+        require(not os.path.exists(file), "a job is written", ran)
+
+
 def write(file, text):
     with open(file, "w", encoding="utf-8", newline="") as it:
         it.write(text)
@@ -853,6 +878,8 @@ def cases(setup):
     yield Case("hints out of memory", lambda: goes_on_without_hints(setup), ORIGIN)
     yield Case("fixed jobs", lambda: are_fixed(setup), ORIGIN)
     yield Case("a fixed job in symbols", lambda: leaves_the_text(setup), ORIGIN)
+    yield Case("a fixed job without idle waits", lambda: has_no_idle_wait(setup), ORIGIN)
+    yield Case("media of a job with one outcome of each request", lambda: media_are_no_posts(setup), ORIGIN)
     yield Case("no fixed job", lambda: says_why_it_writes_nothing(setup), ORIGIN)
     yield Case("runs by seeds", lambda: is_compared(setup), ORIGIN)
     yield Case("codes that are allowed", lambda: codes_are_allowed(setup), ORIGIN)

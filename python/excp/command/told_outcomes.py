@@ -20,7 +20,7 @@ from ..outcomes.page import Pictures, page_of
 from ..outcomes.running import running
 from ..outcomes.scenarios import scenario_of
 from ..outcomes.search import Found, Search, SearchEnded
-from ..outcomes.summary import Told, Verdict, told_verdict, verdict_of
+from ..outcomes.summary import Told, Verdict, told_units, told_verdict, verdict_of
 from ..outcomes.tally import Tally, shares
 from ..outcomes.telling import Asked, Keeper, Teller
 from ..outcomes.told_media import MediaTeller
@@ -164,14 +164,17 @@ class _Run:
         witness = bench.witness(steps, request, outcomes[number - 1])
         return None if witness is None else scenario_of(bench.job, witness)
 
-    def _fix(self, file: FixFile) -> None:
-        """Writes the job with the changes of hints, and tells them."""
+    def _fix(self, file: FixFile, units: int) -> None:
+        """Writes the job with the changes of hints, and tells them; and of units with several media
+        that changes are not for them."""
         script, job = self._source.script, self._bench.job
         text = script.script if script.job is None else script.job
         found = fixed(self._search, job, text, self._found, self._has_time)
         if found.text is not None:
             file.write(found.text)
         self._write(found.told)
+        if units:
+            self._write(f"# --fix looks at posts only, and {told_units(units)}\n")
 
     def _print_all(self, kept: Kept) -> int:
         """Prints all that was found, and returns the exit status."""
@@ -210,7 +213,7 @@ class _Run:
         media.tell_all()
         teller.tell_outputs(media.told_of_output)
         if kept.fix is not None:
-            self._fix(kept.fix)
+            self._fix(kept.fix, media.units)
         return Told(
             has_lost=teller.has_lost or media.has_lost,
             is_cut=teller.is_cut or media.is_cut,
@@ -236,7 +239,10 @@ def _judged(found: Found, told: Told, job: NumberedJob, allow: Sequence[str]) ->
                 return Verdict.SEVERAL
     if verdict_of(found, told) == Verdict.NOT_ALL:
         return Verdict.NOT_ALL
-    return Verdict.SEVERAL if told.units else Verdict.DETERMINISTIC
+    if told.units:
+        note(f"--media: {told_units(told.units)}")
+        return Verdict.SEVERAL
+    return Verdict.DETERMINISTIC
 
 
 def _print(text: str) -> None:

@@ -3,8 +3,9 @@
 from __future__ import annotations
 
 from dataclasses import dataclass, replace
-from typing import Callable, List, Optional, Sequence
+from typing import Callable, Iterator, List, Optional, Sequence
 
+from ..script.grammar import Excp, Wait
 from ..script.reading import lines_of
 from .changes import (
     BY, WAIT, Edit, Measures, Trials, edited, measures, outcomes_at, text_of, total,
@@ -44,6 +45,32 @@ class _Draft:
             [self.origins[line - 1] if line else 0 for line in before],
             [replace(it, line=now[it.line]) for it in changes.measures],
         )
+
+    def without_idle_waits(self) -> _Draft:
+        """The draft without the waits of changes that wait for nothing: other changes moved or
+        repeated what they waited for."""
+        idle = set(self._idle_waits())
+        kept = [line for line in range(1, len(self.lines) + 1) if line not in idle]
+        now = {line: number for number, line in enumerate(kept, 1)}
+        script = lines_of(self.job.script)
+        return _Draft(
+            NumberedJob(text_of([script[line - 1] for line in kept])),
+            [self.lines[line - 1] for line in kept],
+            [self.origins[line - 1] for line in kept],
+            [replace(it, line=now[it.line]) for it in self.measures],
+        )
+
+    def _idle_waits(self) -> Iterator[int]:
+        """The lines of waits of changes whose task has issued nothing since its last wait."""
+        for steps in self.job.tasks:
+            has_issued = False
+            for says in (it.says for it in steps):
+                if isinstance(says, Wait):
+                    if not has_issued and self.origins[says.line - 1] == 0:
+                        yield says.line
+                    has_issued = False
+                elif isinstance(says, Excp):
+                    has_issued = True
 
     def edits(self, first: NumberedJob) -> Sequence[Edit]:
         """All changes, by the lines of the job before them."""
@@ -93,6 +120,7 @@ def fixed(
         trials = trials.of_job(draft.job)
     if draft is first:
         return Fixed(None, _NO_CHANGE)
+    draft = draft.without_idle_waits()
     told = [_CHANGED, *told_changes(job, draft.edits(job)), _told_left(draft.left())]
     return Fixed(text_of(draft.lines), "".join(told))
 

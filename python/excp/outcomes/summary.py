@@ -94,7 +94,12 @@ def _severals(found: Found, told: Told) -> Iterator[str]:
         which = "request has" if requests == 1 else "requests have"
         yield f"{requests} {which} more than one outcome"
     if units:
-        yield f"{units} {'unit has' if units == 1 else 'units have'} more than one medium"
+        yield told_units(units)
+
+
+def told_units(units: int) -> str:
+    """That so many units have several media."""
+    return f"{units} {'unit has' if units == 1 else 'units have'} more than one medium"
 
 
 def _several(found: Found) -> int:
