@@ -13,7 +13,10 @@ import sys
 import tempfile
 import time
 from dataclasses import replace
+from types import SimpleNamespace
 
+from excp.outcomes.fixing import Fixed, fixed
+from excp.outcomes.job import NumberedJob
 from harness import SAMPLES, TOP, Case, expect, read, require, without_states
 from small_jobs import small_job
 
@@ -754,6 +757,14 @@ def is_ended(setup):
         require(script == LONG or counted, "what was left out is not counted", ran)
 
 
+def has_no_time_for_changes():
+    """If the seconds are over, `--fix` writes nothing, and does not say that there are no changes."""
+    text = FEW.encode()
+    found = SimpleNamespace(is_complete=True, outcomes=[[SimpleNamespace(code="48"), SimpleNamespace(code="7F")]])
+    told = fixed(None, NumberedJob(text), text, found, lambda: False)
+    require(told == Fixed(None, "# --most-seconds left no time for changes, so no changed job is written\n"), f"it says {told}")
+
+
 def says_it_was_cut(setup):
     """An outcome of a search that ended early may have another number in a longer one."""
     ran = setup.run("outcomes", "--outcome", "0", "0", "1", "1", "--most-states", "1", script=FEW)
@@ -884,6 +895,7 @@ def cases(setup):
     yield Case("runs by seeds", lambda: is_compared(setup), ORIGIN)
     yield Case("codes that are allowed", lambda: codes_are_allowed(setup), ORIGIN)
     yield Case("shares of runs", lambda: shares_are_counted(setup), ORIGIN)
+    yield Case("no time for changes", has_no_time_for_changes, ORIGIN)
     yield Case("a search that takes long", lambda: is_ended(setup), ORIGIN)
     yield Case("many requests and a halt", lambda: is_quick(setup), ORIGIN)
     yield Case("very many requests and a quiesce", lambda: tells_many(setup), ORIGIN)

@@ -22,7 +22,7 @@ from ..outcomes.scenarios import scenario_of
 from ..outcomes.search import Found, Search, SearchEnded
 from ..outcomes.summary import Told, Verdict, told_units, told_verdict, verdict_of
 from ..outcomes.tally import Tally, shares
-from ..outcomes.telling import Asked, Keeper, Teller
+from ..outcomes.telling import Asked, Keeper, Teller, Time
 from ..outcomes.told_media import MediaTeller
 from ..outcomes.wanted import Wanted
 from ..programs.telling import note
@@ -130,8 +130,17 @@ class _Run:
 
     def _has_time(self) -> bool:
         """Whether there is time left. The printing may take as long as the search."""
+        return self._is_within(2.0)
+
+    def _has_time_for_hints(self) -> bool:
+        """Whether there is time left for hints: half of that for printing, since posts come
+        first."""
+        return self._is_within(1.5)
+
+    def _is_within(self, times: float) -> bool:
+        """Whether so many times the seconds of the search have not passed."""
         most = self._wanted.limits.seconds
-        return most is None or int(time.monotonic() - self._begun) < 2 * most
+        return most is None or time.monotonic() - self._begun < times * most
 
     def status(self, kept: Kept) -> int:
         """Prints, and returns the exit status."""
@@ -207,7 +216,8 @@ class _Run:
         whole = None if run is None else bench.whole(run)
         tally.add([] if whole is None else whole.posts)
         asked = Asked(wanted.tells_all, kept.keeper, self._pictures)
-        teller = Teller(search, found, bench, tally, asked, self._has_time, self._write)
+        times = Time(self._has_time, self._has_time_for_hints)
+        teller = Teller(search, found, bench, tally, asked, times, self._write)
         media = MediaTeller(search, found, bench, wanted.tells_all, self._has_time, self._write)
         teller.tell_all()
         media.tell_all()

@@ -20,6 +20,8 @@ _MOST_STATES = 1_000_000
 _ALL_DONE = "# each request has one outcome, so no changed job is written\n"
 _NOT_ALL = "# not all was found, so no changed job is written\n"
 _NO_CHANGE = "# no hint has changes, so no changed job is written\n"
+_NO_TIME = "# --most-seconds left no time for changes, so no changed job is written\n"
+_NO_STATES = "# the searches for changes ended early, so no changed job is written\n"
 _CHANGED = "# the changed job that was written has these changes:\n"
 _ONE_EACH = "# with them each request has one outcome\n"
 
@@ -112,14 +114,16 @@ def fixed(
     if not draft.left():
         return Fixed(None, _ALL_DONE)
     trials = Trials(search, job, _MOST_STATES)
-    while has_time():
+    while is_in_time := has_time():
         changes = _changes_of(trials, draft)
         if changes is None:
             break
         draft = draft.changed(changes)
         trials = trials.of_job(draft.job)
+    if draft is first and is_in_time:
+        return Fixed(None, _NO_CHANGE if trials.may_go_on() else _NO_STATES)
     if draft is first:
-        return Fixed(None, _NO_CHANGE)
+        return Fixed(None, _NO_TIME)
     draft = draft.without_idle_waits()
     told = [_CHANGED, *told_changes(job, draft.edits(job)), _told_left(draft.left())]
     return Fixed(text_of(draft.lines), "".join(told))

@@ -27,6 +27,7 @@ _MOST = 100
 _MOST_STEPS = 500
 
 _NO_TIME = ", for which --most-seconds left no time"
+_NO_HINT_TIME = "# --most-seconds left no time for its changes\n"
 
 
 class Keeper(Protocol):
@@ -46,6 +47,15 @@ class Asked:
     pictures: Optional[Pictures]
 
 
+@dataclass(frozen=True)
+class Time:
+    """Whether there is time left for more outcomes, and for the hint of a request, which comes
+    first to its end."""
+
+    is_left: Callable[[], bool]
+    is_left_for_hints: Callable[[], bool]
+
+
 class Teller:
     """Tells what a search found, as long as there is time."""
 
@@ -56,11 +66,12 @@ class Teller:
         bench: Bench,
         tally: Tally,
         asked: Asked,
-        has_time: Callable[[], bool],
+        time: Time,
         write: Callable[[str], None],
     ) -> None:
         self._search, self._found, self._bench, self._job = search, found, bench, bench.job
-        self._tally, self._asked, self._has_time, self._write = tally, asked, has_time, write
+        self._tally, self._asked, self._write = tally, asked, write
+        self._has_time, self._has_time_for_hints = time.is_left, time.is_left_for_hints
         self._trials, self._base = Trials(search, bench.job), measures(bench.job, found)
         # whether the search is wrong about some outcome, which is not told; and whether there was
         # no time for some
@@ -99,7 +110,13 @@ class Teller:
         if self._asked.keeper is not None and len(outcomes) > 1:
             self._tell_more(self._left_out(outcomes), "outcome", " without a scenario")
         if len(outcomes) > 1 and self._found.is_complete:
+            self._tell_hint(request)
+
+    def _tell_hint(self, request: Request) -> None:
+        if self._has_time_for_hints():
             self._write(hint(self._trials, self._job, self._base, request))
+        else:
+            self._write(_NO_HINT_TIME)
 
     def _tell_at(self, request: Request, outcomes: Sequence[Outcome], place: int) -> None:
         outcome, is_printed = outcomes[place], self._is_printed(outcomes, place)
