@@ -9,6 +9,7 @@ import glob
 import html.parser
 import os
 import re
+import subprocess
 import sys
 import tempfile
 import time
@@ -639,6 +640,30 @@ def media_are_no_posts(setup):
         require(not os.path.exists(file), "a job is written", ran)
 
 
+def outcomes_unread(setup, *words):
+    """The status of a search for the outcomes of two halted reads whose output nothing reads."""
+    reader, writer = os.pipe()
+    os.close(reader)
+    try:
+        ran = subprocess.run(setup.command("outcomes", *words), input=HALTED_TWICE.encode(), stdout=writer, stderr=subprocess.PIPE,
+                             check=False)
+    finally:
+        os.close(writer)
+    return ran.returncode, ran.stderr.decode()
+
+
+def needs_no_reader(setup):
+    """If nothing reads the output, the status is the same, and so are the files."""
+    named = "excp: outcome 1 of request 1 of task 0 to unit 0 has code 48: line 6\n"
+    ends = {"": (5, ""), "--media": (5, ""), "--often 60": (5, ""), "--allow 7F": (5, named), "--allow 7F,48": (0, "")}
+    for words, ended in ends.items():
+        require((got := outcomes_unread(setup, *words.split())) == ended, f"{words!r}: it ends with {got}")
+    with tempfile.TemporaryDirectory() as folder:
+        file, scenarios = f"{folder}/fixed", f"{folder}/scenarios"
+        got = outcomes_unread(setup, "--fix", file, "--scenarios", scenarios)
+        require(got == (5, "") and read(file) == ONE_WAIT and os.listdir(scenarios), f"it ends with {got}, or a file is missing")
+
+
 def write(file, text):
     with open(file, "w", encoding="utf-8", newline="") as it:
         it.write(text)
@@ -891,6 +916,7 @@ def cases(setup):
     yield Case("a fixed job in symbols", lambda: leaves_the_text(setup), ORIGIN)
     yield Case("a fixed job without idle waits", lambda: has_no_idle_wait(setup), ORIGIN)
     yield Case("media of a job with one outcome of each request", lambda: media_are_no_posts(setup), ORIGIN)
+    yield Case("output that nothing reads", lambda: needs_no_reader(setup), ORIGIN)
     yield Case("no fixed job", lambda: says_why_it_writes_nothing(setup), ORIGIN)
     yield Case("runs by seeds", lambda: is_compared(setup), ORIGIN)
     yield Case("codes that are allowed", lambda: codes_are_allowed(setup), ORIGIN)

@@ -31,7 +31,7 @@ from .handing import handed, name_in_texts
 from .options import words_of
 from .seeded import is_rejected
 from .site_files import SiteFiles, site_files
-from .streams import FAILED, REJECTED, Ended, of_file, say_removed, write_at_once
+from .streams import FAILED, REJECTED, Ended, ReaderGone, of_file, say_removed, write_at_once
 from .tool_run import said
 from .tools import PROGRAM, Order
 from .whole_script import WholeScript
@@ -67,7 +67,8 @@ def _often(
     bench = _bench(source, files)
     tally = Tally(bench.job)
     tally.run_seeds(bench, often, wanted.turn_of_seeds, lambda: True)
-    _print("".join(shares(tally, often)))
+    with contextlib.suppress(ReaderGone):
+        _print("".join(shares(tally, often)))
     return Verdict.SEVERAL if tally.has_several() else Verdict.DETERMINISTIC
 
 
@@ -77,6 +78,27 @@ class Kept:
 
     keeper: Optional[Keeper]
     fix: Optional[FixFile]
+
+    def has_any(self) -> bool:
+        return self.keeper is not None or self.fix is not None
+
+
+class _Output:
+    """Standard output. If nothing reads it any more, `print` raises ReaderGone, or prints nothing
+    from then on."""
+
+    def __init__(self, goes_on: bool) -> None:
+        self._goes_on, self._is_read = goes_on, True
+
+    def print(self, text: str) -> None:
+        if not self._is_read:
+            return
+        try:
+            _print(text)
+        except ReaderGone:
+            self._is_read = False
+            if not self._goes_on:
+                raise
 
 
 def _status(
@@ -126,7 +148,14 @@ class _Run:
         self._source, self._wanted, self._look, self._search = source, wanted, look, search
         self._found, self._bench, self._begun = found, bench, begun
         self._pictures = Pictures() if wanted.has_page else None
-        self._write = _print if self._pictures is None else self._pictures.texts.append
+        self._output = _Output(goes_on=False)
+
+    def _write(self, text: str) -> None:
+        """Prints a text, or keeps it for a page."""
+        if self._pictures is None:
+            self._output.print(text)
+        else:
+            self._pictures.texts.append(text)
 
     def _has_time(self) -> bool:
         """Whether there is time left. The printing may take as long as the search."""
@@ -186,15 +215,21 @@ class _Run:
             self._write(f"# --fix looks at posts only, and {told_units(units)}\n")
 
     def _print_all(self, kept: Kept) -> int:
-        """Prints all that was found, and returns the exit status."""
+        """Prints all that was found, and returns the exit status, which is the same if nothing
+        reads the output."""
         found, wanted, tally = self._found, self._wanted, self._tally_of_seeds()
         missed = tally.missed(found)
-        told = self._tell(tally, kept)
+        self._output = _Output(goes_on=kept.has_any() or wanted.has_media)
+        try:
+            told = self._tell(tally, kept)
+        except ReaderGone:
+            told = Told(has_lost=False, is_cut=False, units=None)
         verdict = verdict_of(found, told)
         last = told_verdict(found, verdict, told, self._look, wanted.counts)
-        self._write(last)
-        if self._pictures is not None:
-            _print_page(self._pictures, wanted.title, last)
+        with contextlib.suppress(ReaderGone):
+            self._write(last)
+            if self._pictures is not None:
+                _print_page(self._pictures, wanted.title, last)
         if missed is not None:
             _note_missed(*missed)
             return FAILED
