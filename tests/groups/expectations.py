@@ -220,6 +220,13 @@ def accepts(setup):
         expect(setup.run("test", "--accept", "-q", "-k", "b.", ".", cwd=folder), (0, f"wrote b.posts\n{SUM(0, 0, ', 1 written')}"))
 
 
+def notes_races(setup):
+    """--accept says of a job that races itself that its next run may have other posts."""
+    job = read(f"{SAMPLES}/outcomes/a-halt.symbolic")
+    note = "  note: the order of tasks may decide posts: 'outcomes' looks for those that each request can have\n"
+    expect(tried(setup, {"a.symbolic": job}, "--accept", "."), (0, f"wrote a.posts\n{note}{SUM(0, 0, ', 1 written')}"))
+
+
 def accepts_no_others(setup):
     """A file of posts that may not be replaced stays, and the test fails. Two jobs do not overwrite each other's posts."""
     script = READ.replace("C1C2C3C4", "C1C2C3C5")
@@ -430,6 +437,7 @@ JUDGES = {
     "paths and options that are wrong": misses_paths,
     "selection by name": selects,
     "--accept": accepts,
+    "--accept of a race": notes_races,
     "--accept of a file that stays": accepts_no_others,
     "--junit": writes_junit,
     "--junit of any bytes": writes_legal_xml,

@@ -11,6 +11,7 @@ from typing import BinaryIO, Callable, Optional, Sequence, Tuple
 
 from ..checking import check_script
 from ..checking.loaded import NO_IMAGES
+from ..checking.races import OUTCOMES
 from ..checking.scenario import ScenarioCheck
 from ..files.opening import why_unopened
 from ..findings import Finding, printable_name, printed
@@ -62,17 +63,17 @@ class Judge:
         expectations = test.expectations
         if not expectations and self.accept is None:
             return Result(test.name, Verdict.NO_EXPECTATION, why=f"there is no {test.posts}")
-        posts = self._posts_of(test.name)
+        script = _read(test.name)
+        posts = self._posts_of(test.name, script)
         expected = [_content(name) for name in expectations]
         if any(it.splitlines() == posts.splitlines() for it in expected):
             return Result(test.name, Verdict.PASSED)
         if self.accept is not None:
-            return self.accept(test, posts)
+            return _with_races(self.accept(test, posts), script)
         return differing(test, expectations[0], expected[0], posts)
 
-    def _posts_of(self, name: str) -> bytes:
+    def _posts_of(self, name: str, script: Assembled) -> bytes:
         """What a run of a job prints. Raises _Fails."""
-        script = _read(name)
         status, posts, errors = self._run("excp_job", ["run"], script)
         if status == 0:
             return posts
@@ -120,6 +121,14 @@ def _carried_out(name: str, script: Assembled) -> Sequence[str]:
     if fails is not None:
         raise fails
     return missed
+
+
+def _with_races(result: Result, script: Assembled) -> Result:
+    """The result of writing the posts of a job, with a note if the next run may have others."""
+    if result.verdict is not Verdict.WRITTEN:
+        return result
+    races = any(it.sentence == OUTCOMES for it in check_script(script, NO_IMAGES))
+    return replace(result, details=[f"note: {OUTCOMES}"] if races else [])
 
 
 def failed(name: str, why: str, details: Sequence[str] = ()) -> Result:
