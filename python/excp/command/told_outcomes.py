@@ -4,14 +4,11 @@ from __future__ import annotations
 
 import contextlib
 import os
-import tempfile
 import time
 from dataclasses import dataclass
-from typing import IO, Iterator, List, Optional, Sequence
+from typing import Iterator, List, Optional, Sequence
 
 from ..checking.loaded import with_sizes
-from ..files.folder import ScenarioFolder
-from ..files.refusals import Unwritten
 from ..outcomes.bench import Bench
 from ..outcomes.fixing import fixed
 from ..outcomes.job import NumberedJob, Request
@@ -29,9 +26,10 @@ from ..programs.telling import note
 from .fix_file import FixFile, fix_file
 from .handing import handed, name_in_texts
 from .options import words_of
+from .scenario_files import scenario_folder
 from .seeded import is_rejected
 from .site_files import SiteFiles, site_files
-from .streams import FAILED, REJECTED, Ended, ReaderGone, of_file, say_removed, write_at_once
+from .streams import FAILED, REJECTED, Ended, ReaderGone, write_at_once
 from .tool_run import said
 from .tools import PROGRAM, Order
 from .whole_script import WholeScript
@@ -45,7 +43,7 @@ def carry_out(order: Order, source: WholeScript, wanted: Wanted) -> int:
             return _often(order, source, files, wanted, wanted.often)
         try:
             fix = fix_file(order, wanted.fix)
-            with _scenario_folder(order) as keeper:
+            with scenario_folder(order) as keeper:
                 return _status(order, source, files, wanted, Kept(keeper, fix))
         except SearchEnded as ended:
             return said(order, source, ended.status)
@@ -297,35 +295,3 @@ def _print(text: str) -> None:
 def _print_page(pictures: Pictures, title: str, last: str) -> None:
     for piece in page_of(pictures, title, last):
         write_at_once(piece.encode())
-
-
-class _Scenarios:
-    """A file of scenarios, each after a line `NAME BYTES`."""
-
-    def __init__(self, file: IO[bytes]) -> None:
-        self._file = file
-
-    def keep(self, name: str, scenario: bytes) -> None:
-        self._file.write(f"{name} {len(scenario)}\n".encode() + scenario)
-
-
-@contextlib.contextmanager
-def _scenario_folder(order: Order) -> Iterator[Optional[Keeper]]:
-    """What takes scenarios, if they are wanted. They go into their folder once all are found.
-    Raises Ended."""
-    if order.folder is None:
-        yield None
-        return
-    folder = ScenarioFolder(order.folder, order.targets())
-    try:
-        for removed in folder.prepare():
-            say_removed(*removed)
-        with tempfile.TemporaryFile() as file:
-            yield _Scenarios(file)
-            file.seek(0)
-            for removed in folder.write_all(file):
-                say_removed(*removed)
-    except Unwritten as error:
-        raise of_file(error.name, error.sentence) from None
-    finally:
-        folder.remove_new()
