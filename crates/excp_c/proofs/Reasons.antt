@@ -1,5 +1,5 @@
 -- What a refused call leaves, once it was explained.
-use Rattle.std.proofs.Common.{◌≡◌, ◌∙◌, ℕ, List, ap, inr, subst, sym, absurd}
+use Rattle.std.proofs.Common.{◌≡◌, ◌∙◌, ℕ, List, ap, inr, subst, sym}
 use Rattle.any_device.specs.declared.device.AnyDevice.{AnyDevice}
 use Rattle.unit_world.specs.Sites.{SiteState}
 use Rattle.excp_site.specs.Extents.{extents_in}
@@ -53,7 +53,9 @@ not_opened s m t unit bytes e refused leaves only left =
     inr (
       refused,
       subst (λ (p : SiteState AnyDevice). OpenCallLeaves s.plain unit p e) (sym plain) leaves,
-      left.0 ∙ ap (λ (x : SiteView). record x { made = t.made }) only
-          ∙ ap (λ (p : SiteState AnyDevice). record s { plain = p; made = t.made }) (sym plain),
-      λ h. ap (λ (x : SiteView). x.made) (left.1 h) ∙ ap (λ (x : SiteView). x.made) only,
+      (
+        left.0 ∙ ap (λ (x : SiteView). record x { made = t.made }) only
+            ∙ ap (λ (p : SiteState AnyDevice). record s { plain = p; made = t.made }) (sym plain),
+        λ h. ap (λ (x : SiteView). x.made) (left.1 h) ∙ ap (λ (x : SiteView). x.made) only,
+      ),
     )
