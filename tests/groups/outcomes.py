@@ -683,7 +683,7 @@ def says_why_it_writes_nothing(setup):
 
 # A program that hands words and questions on to excp_tools, but changed scripts. There it does something else.
 NO_HINT = """#!{python}
-import os, signal, subprocess, sys
+import subprocess, sys
 with subprocess.Popen([{tools!r}, *sys.argv[1:]], stdin=subprocess.PIPE) as child:
     for line in sys.stdin.buffer:
         if line.startswith(b"try "):
@@ -703,8 +703,7 @@ def goes_on_without_hints(setup):
     require(len(hints.findall(usual.out)) == 2, "there are not two hints", usual)
     without = hints.sub("", usual.out)
     lacks = "print('{\"ended\":\"memory\",\"states\":0,\"bytes\":0}\\n{\"last\":true}', flush=True)"
-    ends = (("child.kill(); sys.exit(3)", 5, without), ("child.kill(); os.kill(os.getpid(), signal.SIGKILL)", 5, without),
-            (f"sys.stdin.buffer.read(int(line.split()[2])); {lacks}", 5, without), ("child.kill(); sys.exit(4)", 4, None))
+    ends = (f"sys.stdin.buffer.read(int(line.split()[2])); {lacks}", 5, without), ("child.kill(); sys.exit(4)", 4, None)
     for end, status, output in ends:
         with tempfile.TemporaryDirectory() as folder:
             program = f"{folder}/excp_tools"

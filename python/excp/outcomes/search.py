@@ -6,12 +6,9 @@ from __future__ import annotations
 import json
 import subprocess
 from dataclasses import dataclass
-from typing import Any, Callable, Iterator, List, Mapping, Optional, Sequence
+from typing import Any, Iterator, List, Mapping, Optional, Sequence
 
 WHOLE, STATES, MEMORY, WATCH = "whole", "states", "memory", "watch"
-
-# How the program ends if memory ran out; from the second number on, a signal ended it.
-_OUT_OF_MEMORY, _BY_SIGNAL = 3, 128
 
 
 @dataclass(frozen=True)
@@ -63,40 +60,22 @@ class SearchEnded(Exception):
         super().__init__(status)
         self.status = status
 
-    @property
-    def may_lack_memory(self) -> bool:
-        """Whether memory may have run out: the program says so, or a signal has ended it."""
-        return self.status == _OUT_OF_MEMORY or self.status > _BY_SIGNAL
-
 
 class Search:
     """A search. Each method raises SearchEnded if the program ends."""
 
-    def __init__(self, begin: Callable[[], subprocess.Popen[bytes]]) -> None:
-        """`begin` starts the program, with pipes to it."""
-        self._begin = begin
-        self._child = begin()
+    def __init__(self, child: subprocess.Popen[bytes]) -> None:
+        """`child` is the program, with pipes to it."""
+        self._child = child
 
     def of_job(self, text: bytes) -> Found:
         """Searches the job whose text this is. It comes first."""
-        self._job, self._found = text, _found(self._answer(f"job {len(text)}", text))
-        return self._found
+        return _found(self._answer(f"job {len(text)}", text))
 
     def of_changed(self, text: bytes, most_states: int) -> Optional[Found]:
-        """Searches a changed job, up to so many states. `None` if memory ran out. If that ended the
-        program, the job is searched anew by another child."""
-        try:
-            found = _found(self._answer(f"try {most_states} {len(text)}", text))
-            return None if found.ended == MEMORY and not found.outcomes else found
-        except SearchEnded as ended:
-            before = self._found
-            if not ended.may_lack_memory:
-                raise
-            self.end()
-            self._child = self._begin()
-            if self.of_job(self._job) != before:
-                raise
-            return None
+        """Searches a changed job, up to so many states. `None` if memory ran out."""
+        found = _found(self._answer(f"try {most_states} {len(text)}", text))
+        return None if found.ended == MEMORY and not found.outcomes else found
 
     def short_steps_to(self, request: int, outcome: Outcome) -> Optional[Sequence[str]]:
         """As `steps_to`, without steps that the outcome does not need."""
