@@ -364,13 +364,14 @@ def threads_are_among(setup, seed):
 
 
 def every_outcome(setup, script, folder):
-    """The outcomes by the scenarios that the program writes into a folder, each of which `step` runs to its post."""
+    """The outcomes by the scenarios that the program writes into a folder, each of which `test` runs to its post."""
     _, last = outcomes_of(setup, script, "--turn", "1", "--most-states", "50000", "--all", "--scenarios", folder)
     told = {}
-    for file in sorted(glob.glob(f"{folder}/*.scenario")):
-        ran = setup.run("step", script=read(file))
-        require((ran.status, ran.err) == (0, ""), f"{os.path.basename(file)} does not come to its post", ran)
-        post = ran.out.rstrip("\n").rpartition("post ")[2].split(" ", 3)
+    files = sorted(glob.glob(f"{folder}/*.scenario"))
+    ran = setup.run("test", "--quiet", folder)
+    require((ran.status, ran.err) == (0, "") and ran.out.startswith(f"{len(files)} passed"), "a scenario does not come to its post", ran)
+    for file in files:
+        post = read(file).rstrip("\n").rpartition("expect post ")[2].split(" ", 3)
         name = "-".join(post[:3])
         require(os.path.basename(file).startswith(f"post-{name}-"), f"{file} posts {name}", ran)
         told.setdefault(" ".join(post[:3]), []).append(post[3])
