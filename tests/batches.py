@@ -8,15 +8,10 @@ A batch counts for nothing if the check does not end as one that refuses proofs,
 functions, or if it refuses something because another thing was refused.
 """
 
-import os
 import re
 import time
-from dataclasses import dataclass
 
-from harness import read
-
-# The first line of a function, as `rt fmt` lays it out: how far it is indented, and its name.
-HEAD = re.compile(r"( *)(?:pub(?:\([a-z ]+\))? )?fn ([a-z]\w*)\b")
+from edit_form import BadEdit, applied, lines_of
 
 # A complaint of a proof, at a place in the code.
 COMPLAINT = re.compile(r"note: (?:\./)?(src/[^\s:]+):(\d+):\d+: it is not proved .*")
@@ -28,49 +23,14 @@ DOUBT = re.compile(r"was not admitted|could not tell|\berror\[|(?m:^(?:note: )?(
 MOST = 8
 
 
-@dataclass
-class Site:
-    """The function that a mutant changes: its file, its first and last line, its name and its text."""
-
-    path: str
-    first: int
-    last: int
-    name: str
-    text: str
-
-    def has(self, path, line):
-        return self.path == path and self.first <= line <= self.last
-
-    def is_apart(self, other):
-        """Whether this is another function, and neither names the other."""
-        names = any(re.search(rf"\b{one.name}\b", two.text) for one, two in ((self, other), (other, self)))
-        return not names and not self.has(other.path, other.first) and not other.has(self.path, self.first)
-
-
-def function_at(path, lines, at):
-    """The function with this line, counted from 0, in its body; none if the line is elsewhere."""
-    heads = [(number, HEAD.match(lines[number])) for number in range(at + 1)]
-    number, head = next(((number, it) for number, it in reversed(heads) if it), (0, None))
-    if not head:
-        return None
-    ends = [it for it in range(number, len(lines)) if lines[it] == f"{head[1]}}}"]
-    opens = [it for it in range(number, at) if re.fullmatch(rf"{head[1]}(?! ).*{{", lines[it])]
-    if not ends or not opens or at > ends[0]:
-        return None
-    return Site(path, number + 1, ends[0] + 1, head[2], "\n".join(lines[number : ends[0] + 1]))
-
-
 def site_of(edit, folder):
     """The one function in whose body a mutant has all its changes, or none."""
-    path, sites = "", []
-    for line in read(edit).split("\n"):
-        if line.startswith("file: "):
-            path = line.removeprefix("file: ").strip()
-        elif line.startswith("old: "):
-            text = read(f"{folder}/{path}") if path.startswith("src/") and os.path.isfile(f"{folder}/{path}") else ""
-            before, found, _ = text.partition(line.removeprefix("old: "))
-            sites.append(function_at(path, text.split("\n"), before.count("\n")) if found else None)
-    return sites[0] if sites and all(it and it == sites[0] for it in sites) else None
+    try:
+        _, sites = applied(lines_of(edit), folder)
+    except BadEdit:
+        return None
+    is_one = all(it and (it.path, it.first) == (sites[0].path, sites[0].first) for it in sites)
+    return sites[0] if is_one else None
 
 
 def parted(edits, folder):
@@ -107,8 +67,9 @@ def rejected(rt, crate, edits, kept):
     """Of these mutants, those that are rejected side by side: for each its share of the seconds, and where."""
     result = {}
     for batch in parted(edits, crate.folder):
-        texts, why = rt.edited("".join(f"{read(it)}\n" for it in batch), crate.folder)
-        if why:
+        try:
+            texts, _ = applied([line for it in batch for line in lines_of(it)], crate.folder)
+        except BadEdit:
             continue
         begun = time.monotonic()
         ran = rt.checked(crate, texts, ["--jobs", "1"], kept)

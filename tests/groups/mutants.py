@@ -1,7 +1,6 @@
 """Mutants: edits that a contract or a test rejects, each tried on a copy of its crate over kept work.
 
-A mutant is a file tests/mutants/CRATE/NAME.edit in the form of a must-fail edit (`rt` without words says more), whose first
-line says what rejects it:
+A mutant is a file tests/mutants/CRATE/NAME.edit in the form that tests/edit_form.py has, whose first line says what rejects it:
 
     rejected by: check                 `rt check` of the crate does not prove it
     rejected by: test CRATE NAME       the test of that crate fails; nothing is proved, as by `rt try --test`
@@ -38,6 +37,7 @@ import time
 
 import batches
 import worked
+from edit_form import read_edit
 from harness import TOP, Case, Failed, Ran, decoded, read, require, run
 
 MUTANTS = f"{TOP}/tests/mutants"
@@ -79,6 +79,8 @@ def loaded():
     before = sys.dont_write_bytecode
     loader.exec_module(made)
     sys.dont_write_bytecode = before
+    # the kit reads no functions and patterns
+    made.read_edit = read_edit
     return made
 
 
@@ -134,8 +136,7 @@ def rejected_by_check(name, edit, edits):
 def rejected_by_test(name, edit, tests, test):
     """The test of a crate of tests fails with the edit."""
     begun = time.monotonic()
-    rt = loaded()
-    texts, why = rt.read_edit(edit, f"{TOP}/crates/{name}")
+    texts, why = read_edit(edit, f"{TOP}/crates/{name}")
     require(not why, f"BAD EDIT: {why}")
     with tempfile.TemporaryDirectory(prefix="mutants-") as room:
         run(["git", "init", "-q", room])
@@ -160,8 +161,7 @@ def rejected_by_test(name, edit, tests, test):
 def rejected_by_run(name, edit, group, case):
     """The cases pass on the program that is built with no edit, and fail on the one with the edit."""
     begun = time.monotonic()
-    rt = loaded()
-    texts, why = rt.read_edit(edit, f"{TOP}/crates/{name}")
+    texts, why = read_edit(edit, f"{TOP}/crates/{name}")
     require(not why, f"BAD EDIT: {why}")
     way = PLAIN.get(group, "tried")
     words = [f"{TOP}/tests/run", group, "--case", case, "--jobs", "1", "--program"]
