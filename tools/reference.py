@@ -10,7 +10,8 @@ docs/MANUAL.md has the lines of scripts and scenarios (python/excp/script), the 
 (python/excp/help, compared with the parsers of python/excp/command), the faults that `check` finds
 (python/excp/findings.py) and the exit statuses (python/excp/command/statuses.py).
 docs/ARCHITECTURE.md has the crates (crates.txt, and the first sentence of each lib.rt or main.rt),
-and the folders of python/excp by theirs.
+and the folders of python/excp by theirs. docs/PROVED.md has the calls of PROMISED: the first sentence of each comment, and the
+names of its promises.
 """
 
 import difflib
@@ -22,6 +23,7 @@ TOP = os.path.dirname(os.path.dirname(os.path.realpath(__file__)))
 sys.dont_write_bytecode = True
 sys.path.insert(0, f"{TOP}/python")
 
+from calls import calls  # noqa: E402
 from excp.command.help import page_of  # noqa: E402
 from excp.command.parser import WordParser  # noqa: E402
 from excp.command.statuses import STATUSES  # noqa: E402
@@ -155,10 +157,53 @@ def crates():
     return "\n".join([*parts, f"**python/excp**\n\n{''.join(items)}"])
 
 
+# The calls that a request goes through, from its script to its post, and the laws that they rest on.
+PROMISED = {
+    "job_script": "Script::parse",
+    "job_mount": "books",
+    "job_run": "Job::commands",
+    "excp_system": "Task::excp Task::control Task::take_post",
+    "fifo_row": "Sender::send Taker::take",
+    "unit_book": """UnitBook::arrive UnitBook::start UnitBook::run UnitBook::interrupt UnitBook::purge UnitBook::close
+        posts_are_last names_have_one_place first_starts_keep_order doomed_are_not_started starts_are_few posts_have_values
+        finished_posts_once""",
+    "serial_order": "serves_in_order",
+    "ccw_programs": "burst",
+    "recovery": "verdict",
+    "post_ledger": "finish",
+}
+
+# What a sentence of a comment says beside its promise: where the standard has the rule.
+CITED = re.compile(r" \((?:DFSMSdfp|Principles of Operation|chapter|profile)[^()]*\)")
+
+
+def promises():
+    """The calls of PROMISED, by crate."""
+    parts = []
+    for crate, names in PROMISED.items():
+        known = {it.name: it for it in calls(crate)}
+        has_all(f"crates/{crate}", known, names.split())
+        items = [promise(known[name]) for name in names.split()]
+        parts.append(f"**{crate}**\n\n{''.join(items)}")
+    return "\n".join(parts)
+
+
+def promise(call):
+    """An item on a call: its name, the first sentence of its comment, and the names of its promises."""
+    named = f" (`{' '.join(call.promises)}`)" if call.promises else ""
+    sentence = re.split(r"\.(?:\s|$)", CITED.sub("", call.comment))[0]
+    return laid_out(f"- `{call.name}`: {sentence}{named}")
+
+
 def item(name, comment):
+    """An item on a crate or a folder."""
+    return laid_out(f"- **{name}**: {first_sentence(comment)}")
+
+
+def laid_out(text):
     """An item of a list, in lines of at most COLUMNS columns."""
     found = [""]
-    for word in f"- **{name}**: {first_sentence(comment)}".split(" "):
+    for word in text.split(" "):
         if len(found[-1]) + 1 + len(word) > COLUMNS:
             found.append(" ")
         found[-1] += f" {word}" if found[-1] else word
@@ -175,6 +220,7 @@ PARTS = {
         "the exit statuses": statuses,
     },
     "docs/ARCHITECTURE.md": {"the crates": crates},
+    "docs/PROVED.md": {"the calls of a request": promises},
 }
 
 

@@ -8,15 +8,14 @@ It reads the doc comments of the calls, from a sentence on that begins with "Err
 enough, or the call is a fault. The last line is `N passed, M failed`, and the exit status is 1 if a call failed.
 """
 
-import glob
-import os
 import re
 import sys
 
-TOP = os.path.dirname(os.path.dirname(os.path.realpath(__file__)))
+sys.dont_write_bytecode = True
+
+from calls import TOP, calls  # noqa: E402
+
 LAYERS, OF_A_RUN = "bytes devices images channel unit system library".split(), "script_words job_script job_mount job_run".split()
-CALL = re.compile(r"((?:^[ \t]*(?:///|#\[).*\n)*)^([ \t]*)pub (?:const )?fn (\w+)([^;{]*?)(?=\n\s*(?:requires|ensures)\b|[;{])", re.M)
-OWNER = re.compile(r"^(?:pub )?(?:impl|trait)\b(?:<.*?>)? ?(?:.* for )?(\w+)", re.M)
 ERROR = re.compile(r"-> (?:(?P<io>io::|Io)?Result<(?P<types>.*)>)$")
 
 # What a call rejects whose comment has no such sentence, by the type of its error.
@@ -34,17 +33,13 @@ def libraries():
 
 def rows(crate):
     """Each public call of a crate that can return an error: its name, and what it rejects, or nothing."""
-    for file in sorted(glob.glob(f"{TOP}/crates/{crate}/src/**/*.rt", recursive=True)):
-        with open(file, encoding="utf-8") as it:
-            text = it.read()
-        for call in CALL.finditer(text):
-            error = ERROR.search(" ".join(call[4].split()).replace("<(), ", "<_, ").replace(", >", ">"))
-            if error:
-                owner = [f"{it[1]}::" for it in OWNER.finditer(text, 0, call.start())][-1:] if call[2] else []
-                said = re.search(r"\bErrors?\b.*", " ".join(it.strip()[4:] for it in call[1].splitlines() if "///" in it))
-                kind = "io" if error["io"] or not re.search(r"\w+Err|Refusal|FaultName|Alloc|, ", error["types"]) else error["types"]
-                known = next((it for name, it in BY_TYPE.items() if re.search(rf"(?:^|, )\(?{name}\b[^,]*$", kind)), "")
-                yield "".join([*owner, call[3]]), said[0] if said else known
+    for call in calls(crate):
+        error = ERROR.search(call.signature.replace("<(), ", "<_, ").replace(", >", ">"))
+        if error:
+            said = re.search(r"\bErrors?\b.*", call.comment)
+            kind = "io" if error["io"] or not re.search(r"\w+Err|Refusal|FaultName|Alloc|, ", error["types"]) else error["types"]
+            known = next((it for name, it in BY_TYPE.items() if re.search(rf"(?:^|, )\(?{name}\b[^,]*$", kind)), "")
+            yield call.name, said[0] if said else known
 
 
 def main(crates):

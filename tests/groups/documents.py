@@ -195,7 +195,7 @@ def cases(setup):
     yield Case("definitions of the headline", lambda: passes("closure", "--check"), "docs/PROVED.md, by tests/closure")
     yield Case("the list of the headline", lambda: passes("closure", "--self-test"), "tests/closure, specs with a known list")
     yield Case("what pages have of tables", lambda: passes("reference.py", "--check", folder="tools"),
-               "docs/MANUAL.md and docs/ARCHITECTURE.md, by tools/reference.py")
+               "docs/MANUAL.md, ARCHITECTURE.md and PROVED.md, by tools/reference.py")
     yield Case("what calls reject", lambda: passes("refusals.py", folder="tools"),
                "tools/refusals.py, by the comments of the calls")
     yield Case("edits of mutants", lambda: passes("edits"), "docs/TESTING.md, by tests/edits")
