@@ -9,6 +9,7 @@ each call rejects in its comment. tests/edits applies the mutants to the code as
 commands of the pages. mypy, if it is installed, checks the types of python/excp. A README that names another kit is a warning.
 """
 
+import glob
 import os
 import re
 import shutil
@@ -24,6 +25,13 @@ def passes(program, *words, folder="tests"):
     if ran.status != 0 or not re.search(r"^\d+ passed, 0 failed$", ran.out.rstrip("\n").rpartition("\n")[2]):
         raise Failed(f"{folder}/{program} found faults", ran, None, ran.out + ran.err)
     return f"{folder}/{program}: {ran.out.rstrip().rpartition(chr(10))[2]}"
+
+
+def help_fits(columns=80):
+    """No line of a page of help has more than 80 columns, those of a terminal."""
+    pages = sorted(glob.glob(f"{TOP}/python/excp/help/*.txt"))
+    wide = [f"{os.path.basename(it)}: {line}" for it in pages for line in read(it).split("\n") if len(line) > columns]
+    require(pages and not wide, "\n".join([f"{len(wide)} lines of help have over {columns} columns:", *wide]))
 
 
 def names_kit():
@@ -219,4 +227,5 @@ def cases(setup):
             if named(block, NOT_RUN) is None:
                 judge = lambda b=block, f=following: prints_page(setup, b, f)
                 yield Case(f"commands of {page}, line {block.line}", judge, page)
+    yield Case("help in 80 columns", help_fits, "python/excp/help")
     yield Case("kit of the README", names_kit, "rt version")

@@ -23,7 +23,7 @@ NEWER = (
     "./excp --try runs the sources as they are"
 )
 BUILDS = (
-    "{}: builds it unproved, in one to three minutes; "
+    "{}: builds it unproved and not optimized, in one to three minutes; "
     "./excp --build proves it, in half an hour to an hour"
 )
 
