@@ -191,7 +191,7 @@ def promises():
 def promise(call):
     """An item on a call: its name, the first sentence of its comment, and the names of its promises."""
     named = f" (`{' '.join(call.promises)}`)" if call.promises else ""
-    sentence = re.split(r"\.(?:\s|$)", CITED.sub("", call.comment))[0]
+    sentence = re.split(r"; |\.(?:\s|$)", CITED.sub("", call.comment))[0]
     return laid_out(f"- `{call.name}`: {sentence}{named}")
 
 
