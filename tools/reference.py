@@ -165,9 +165,9 @@ PROMISED = {
     "excp_system": "Task::excp Task::control Task::take_post",
     "fifo_row": "Sender::send Taker::take",
     "unit_book": """UnitBook::arrive UnitBook::start UnitBook::run UnitBook::interrupt UnitBook::purge UnitBook::close
-        posts_are_last names_have_one_place first_starts_keep_order doomed_are_not_started starts_are_few posts_have_values
-        finished_posts_once""",
-    "serial_order": "serves_in_order",
+        laws::posts_are_last laws::names_have_one_place laws::first_starts_keep_order laws::doomed_are_not_started
+        laws::starts_are_few laws::posts_have_values laws::finished_posts_once""",
+    "serial_order": "laws::serves_in_order",
     "ccw_programs": "burst",
     "recovery": "verdict",
     "post_ledger": "finish",
@@ -182,17 +182,17 @@ def promises():
     parts = []
     for crate, names in PROMISED.items():
         known = {it.name: it for it in calls(crate)}
-        has_all(f"crates/{crate}", known, names.split())
-        items = [promise(known[name]) for name in names.split()]
-        parts.append(f"**{crate}**\n\n{''.join(items)}")
+        named = {name: name.removeprefix("laws::") for name in names.split()}
+        has_all(f"crates/{crate}", known, named.values())
+        parts.append(f"**{crate}**\n\n{''.join(promise(name, known[it]) for name, it in named.items())}")
     return "\n".join(parts)
 
 
-def promise(call):
+def promise(name, call):
     """An item on a call: its name, the first sentence of its comment, and the names of its promises."""
-    named = f" (`{' '.join(call.promises)}`)" if call.promises else ""
+    clauses = f" (`{' '.join(call.promises)}`)" if call.promises else ""
     sentence = re.split(r"; |\.(?:\s|$)", CITED.sub("", call.comment))[0]
-    return laid_out(f"- `{call.name}`: {sentence}{named}")
+    return laid_out(f"- `{name}`: {sentence}{clauses}")
 
 
 def item(name, comment):
