@@ -14,7 +14,7 @@ from harness import TOP, Skipped, expect, outcome, read, require, run, without_s
 JOBS = ["docs/TUTORIAL.md"]
 
 # A line that is a command.
-COMMAND = re.compile(r"(?:\$ )?(?:\./|tests/(?!cases/)|tools/|cd |rt |job=|head )")
+COMMAND = re.compile(r"(?:\$ )?(?:\./|tests/(?!cases/)|tools/|samples/timed |(?:cd|rt|head|cc|make|pip|python3|valgrind) |job=)")
 
 # ./excp of a folder in which commands run: it runs the programs that are tested, on a file or with a subcommand, and the package.
 # The job whose outcomes the pages show has several, so its status is 5.
@@ -128,6 +128,7 @@ RUN = {
     ("docs/REPORT.md", "./excp report --json first.script"): (ANYTHING, {"first.script": "samples/read.script"}),
     ("docs/REPORT.md", "./excp report --html first.script"): (NOTHING, {"first.script": "samples/read.script"}),
     ("docs/REPORT.md", "./excp step --json samples/scenarios/halt-an-active-request.scenario"): (ANYTHING, {}),
+    ("docs/SPEED.md", "samples/timed small 20000"): (NOTHING, {}),
     ("docs/ASSEMBLER.md", "./excp report --posts job"): (NEXT, {"job": "tasks 1"}),
     ("docs/ASSEMBLER.md", "./excp report --steps job"): (AMONG, {"job": "tasks 1"}),
     ("docs/ASSEMBLER.md", "./excp report --listing samples/read.script"): (AMONG, {}),
@@ -143,7 +144,11 @@ NOT_RUN = {
     ("docs/CLIENT.md", "tools/library.py"): "the group library_clients builds and runs the examples",
     ("samples/README.md",
      "./excp step --html samples/scenarios/a-related-error.scenario"): "it needs Chromium; the group pages opens pages",
+    ("docs/CLIENT.md", "cc "): "the group c_library builds programs in these ways",
+    ("docs/CLIENT.md", "pip install ./python"): "the group library_clients installs the package",
+    ("docs/CLIENT.md", "python3 examples/python/test_channel_program.py"): "the group library_clients runs the examples",
     ("docs/SPEED.md", "cd crates/excp_speed && rt run -- 2000"): "it proves the program and takes minutes",
+    ("docs/SPEED.md", "valgrind --tool=callgrind"): "it runs that program",
 }
 
 
