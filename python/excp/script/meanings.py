@@ -19,7 +19,7 @@ MEANINGS: Mapping[str, str] = {
     "tasks": f"1 to {MOST_TASKS} tasks, numbered from 0",
     "disk": f"unit U: at most {_TRACKS}, and {MOST_MEDIUM_BYTES:,} bytes in all",
     "tape": f"unit U: a tape of {LEAST_TAPE_BYTES} to {MOST_MEDIUM_BYTES:,} bytes",
-    "printer": f"unit U: room for {_PAPER}",
+    "printer": f"unit U: {_PAPER}",
     "rec": "the next record of a track of disk U: number R from 1, key, data",
     "block": f"the next item of tape U: a block of 1 to {MOST_DATA_BYTES:,} bytes",
     "mark": "the next item of tape U: a tape mark",
@@ -50,12 +50,12 @@ _NO_DCB = "`NoSuchDcb`"
 EVENTS: Mapping[str, Event] = {
     "excp": Event(
         "issues a request",
-        "`Accepted T U N`; `Full` if the way to the unit has no room; `NoNumber` after the last "
+        "`Accepted T U N`; `Full` if the row to the unit is full; `NoNumber` after the last "
         "number",
     ),
     "take": Event(
         "the first request on its way to unit U arrives",
-        "`Took T U N`; `Held` if the unit has no room",
+        "`Took T U N`; `Held` if the unit is full",
     ),
     "start": Event(
         "starts what comes next",
@@ -72,7 +72,7 @@ EVENTS: Mapping[str, Event] = {
     ),
     "deliver": Event(
         "the first posted request goes on its way to its task",
-        "`Delivered T U N`; `Full T U N` if there is no room",
+        "`Delivered T U N`; `Full T U N` if the row to the task is full",
     ),
     "collect": Event("task T collects its next post", "the `post` line of a run"),
     "purge": Event(
