@@ -1,5 +1,5 @@
 -- What a task has asked of a unit are the controls of its commands there, in order.
-use Rattle.std.proofs.Common.{◌≡◌, ◌≢◌, ◌<◌, ◌+◌, ◌==◌, ℕ, zero, suc, Bool, true, false, if◌then◌else◌, Result, Ok, Err, OnOk, List, [], ◌∷◌, ◌++◌, length, map, refl, sym, subst, ap, ◌∙◌, arith, add-one, append_assoc, append-nil}
+use Rattle.std.proofs.Common.{◌≡◌, ◌≢◌, ◌<◌, ◌+◌, ◌==◌, ℕ, zero, suc, Bool, true, false, if◌then◌else◌, ◌≤◌, ◌⊎◌, inl, inr, Result, Ok, Err, OnErr, OnOk, List, [], ◌∷◌, ◌++◌, length, map, refl, sym, subst, ap, ◌∙◌, arith, add-one, append_assoc, append-nil}
 use Rattle.std.specs.Result.{result_and}
 use Rattle.std.proofs.lemmas.Bool.{eqb-true}
 use Rattle.std.proofs.lemmas.Bool.Decides.{nat_tests}
@@ -13,7 +13,10 @@ use Rattle.job_script.specs.declared.command.Action.TheVariants.{Excp, Purge, Pu
 use Rattle.job_script.specs.declared.command.Command.{Command}
 use Rattle.job_script.specs.Views.{action_said, command_said}
 use Rattle.job_run.specs.Controls.{asked_controls, control_to}
-use Rattle.job_run.specs.Sending.{asks_all, asks_each, asks_of, does_all}
+use Rattle.job_run.specs.Sending.{AsksSome, asks_each, asks_of, does_all}
+use Rattle.job_run.proofs.Sent.{asks_all}
+use mathlib.Core.Logic.{dite}
+use native.Mathlib.Decide.{ℕ_discrete}
 
 -- what is asked of one unit
 one_by : (unit at : ℕ) (c : Control) (asked : List (List Control)) → unit < length asked → (b : Bool) → (at == unit) ≡ b →
@@ -98,3 +101,38 @@ first_and n c old now new (Ok x) here after is within first one =
     (λ (e : new ≡ asks true n c now). e ∙ ap (asks true n c) first ∙ first_more n c old within
     ∙ ap (λ (k : ℕ). asks_first k c old) (sym (add-one n))) one)
 first_and n c old now new (Err x) here after is within first one = subst (λ r. OnOk r (new ≡ asks_first (n + 1) c old)) (sym is) tt
+
+-- SOME OF THE FIRST n UNITS were asked a control, of each once at most, and no other unit
+pub record AsksSomeFirst (n : ℕ) (c : Control) (old new : List (List Control)) : Type 0 where
+  pub some : AsksSome c old new
+  pub others : (unit : ℕ) → n ≤ unit → asked_of new unit ≡ asked_of old unit
+
+pub some_none : (c : Control) (asked : List (List Control)) → AsksSomeFirst 0 c asked asked
+some_none c asked = record { some = record { count = refl; each = λ unit. inl refl }; others = λ unit after. refl }
+
+-- the unit n is not asked
+some_stays : (n : ℕ) (c : Control) (old new : List (List Control)) → AsksSomeFirst n c old new → AsksSomeFirst (n + 1) c old new
+some_stays n c old new s = record { some = s.some; others = λ unit after. s.others unit (omega (arith, after)) }
+
+-- or it is
+some_more : (n : ℕ) (c : Control) (old now : List (List Control)) → n < length old → AsksSomeFirst n c old now →
+    AsksSomeFirst (n + 1) c old (asks true n c now)
+some_more n c old now within s =
+    let here : n < length now = omega (arith, within, s.some.count) in
+    let apart : (unit : ℕ) → unit ≢ n → asked_of (asks true n c now) unit ≡ asked_of now unit =
+    λ unit ne. get_or-set_other now n unit (asked_of now n ++ c ∷ []) [] (λ e. ne (sym e)) in
+    record {
+      some = record {
+        count = length-set now n (asked_of now n ++ c ∷ []) ∙ s.some.count;
+        each = λ unit. dite (ℕ_discrete unit n)
+            (λ e. inr (get_or-set_at now n unit (asked_of now n ++ c ∷ []) [] e here
+            ∙ ap (λ (l : List Control). l ++ c ∷ []) (s.others n (omega arith) ∙ ap (asked_of old) (sym e))))
+            (λ ne. subst (λ (l : List Control). (l ≡ asked_of old unit) ⊎ (l ≡ asked_of old unit ++ c ∷ [])) (sym (apart unit ne)) (s.some.each unit));
+      };
+      others = λ unit after. apart unit (λ e. absurd (omega (arith, after, e))) ∙ s.others unit (omega (arith, after));
+    }
+
+pub some_and : {A E : Type 0} (n : ℕ) (c : Control) (old now new : List (List Control)) (here : Result A E) → n < length old →
+    AsksSomeFirst n c old now → OnOk here (new ≡ asks true n c now) → OnErr here (new ≡ now) → AsksSomeFirst (n + 1) c old new
+some_and n c old now new (Ok x) within s is unasked = subst (AsksSomeFirst (n + 1) c old) (sym is) (some_more n c old now within s)
+some_and n c old now new (Err e) within s is unasked = subst (AsksSomeFirst (n + 1) c old) (sym unasked) (some_stays n c old now s)

@@ -31,9 +31,10 @@ use Rattle.job_run.specs.declared.run.Finished.{Finished}
 use Rattle.job_run.specs.Controls.{AreControlledAs, asked_controls}
 use Rattle.job_run.specs.Ran.{IsDone, Ran}
 use Rattle.job_run.specs.Requests.{excps, requests_from}
-use Rattle.job_run.specs.Sending.{DoesScript, asks_all, sends_all}
+use Rattle.job_run.specs.Sending.{DoesScript, no_deeds}
 use Rattle.job_run.proofs.Asked.{asks_controls}
 use Rattle.job_run.proofs.Requested.{sends_requests}
+use Rattle.job_run.proofs.Sent.{asks_all, deeds-asked, deeds-sent, sends_all}
 use Rattle.job_run.proofs.Uncontrolled.{uncontrolled_trace}
 use mathlib.Core.Logic.{dite}
 use native.Mathlib.Decide.{ℕ_discrete}
@@ -43,8 +44,11 @@ own_of x = Ok x
 
 -- a task that did all has sent what its commands send, and asked what they ask
 did_all : {L : Type 0} (commands : List Command) (old new : TaskState) (o : Result L TaskError) → DoesScript commands old new o → IsDone o →
-    (new.sent ≡ sends_all old.number commands old.sent) × (new.asked ≡ asks_all old.number commands old.asked) × (awaited_count new ≡ 0)
-did_all commands old new (Ok x) does done = does
+    (new.sent ≡ sends_all old.number commands old.sent) × (new.asked ≡ asks_all old.number commands old.asked)
+did_all commands old new (Ok x) does done = (
+  does.0.sent ∙ deeds-sent old.number commands (no_deeds old),
+  does.0.asked ∙ deeds-asked old.number commands (no_deeds old),
+)
 did_all commands old new (Err e) does done = absurd done
 
 module _ {L : Type 0} (script : Script) (units count : ℕ) (opened : List (Book AnyDevice)) (report : ReportState AnyDevice)
@@ -55,8 +59,7 @@ module _ {L : Type 0} (script : Script) (units count : ℕ) (opened : List (Book
       (w.sent ≡ sends_all t script.commands.items (replicate units [])) × (w.asked ≡ asks_all t script.commands.items (replicate units []))
   did t w there =
       let o = get_there outcomes a.tasks t w (sym a.run.count_is) there in
-      let all = did_all script.commands.items (fresh_task units t) w o.0 (a.run.each t w o.0 there o.1) (all_get IsDone outcomes t o.0 done o.1) in
-      (all.0, all.1)
+      did_all script.commands.items (fresh_task units t) w o.0 (a.run.each t w o.0 there o.1) (all_get IsDone outcomes t o.0 done o.1)
 
   sent_is : (t u : ℕ) (w : TaskState) → slice_get a.tasks t ≡ Some w → u < units →
       sent_by w u ≡ requests_from t 1 (excps t u (said script).commands)

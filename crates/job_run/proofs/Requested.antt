@@ -14,7 +14,8 @@ use Rattle.job_script.specs.declared.command.Excp.{Excp as OneExcp}
 use Rattle.job_script.specs.Said.{ExcpSaid}
 use Rattle.job_script.specs.Views.{action_said, command_said, excp_said}
 use Rattle.job_run.specs.Requests.{excp_to, excps, excp_piece, requests_from}
-use Rattle.job_run.specs.Sending.{does_all, sends, sends_all, sends_excp}
+use Rattle.job_run.specs.Sending.{does_all, sends, sends_excp}
+use Rattle.job_run.proofs.Sent.{sends_all}
 
 -- what stands at a unit
 abbrev at : List (List Piece) → ℕ → List Piece

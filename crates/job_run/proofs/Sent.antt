@@ -1,47 +1,214 @@
--- What a task has sent when it stops, or ends early.
-use Rattle.std.proofs.Common.{◌≡◌, ℕ, Result, Ok, Err, IfErr, OnOk, List, [], refl, sym, subst, ◌∙◌}
+-- What a task has done, from one command to the next, and when it stops or ends early.
+use Rattle.std.proofs.Common.{◌≡◌, ◌≤◌, ◌==◌, ℕ, Bool, true, false, if◌then◌else◌, Result, Ok, Err, IfErr, OnOk, List, [], ◌∷◌, ◌++◌, length, inl}
+use Rattle.std.proofs.Common.{refl, sym, subst, ap, ◌∙◌, arith, append-nil, drop}
 use Rattle.std.specs.Result.{IsErrAnd}
 use Rattle.excp_system.specs.States.{TaskState, awaited_count}
+use Rattle.excp_system.specs.declared.control.Control.{Control}
 use Rattle.request_piece.specs.declared.piece.Piece.{Piece}
+use Rattle.request_piece.specs.PostedState.{PostedState}
+use Rattle.job_script.specs.declared.command.Action.{Action}
+use Rattle.job_script.specs.declared.command.Action.TheVariants.{Excp, Purge, PurgeTask, Close, Reset, Wait}
 use Rattle.job_script.specs.declared.command.Command.{Command}
+use Rattle.job_script.specs.Tasks.{places_of}
 use Rattle.job_run.specs.declared.task_error.TaskError.{TaskError}
 use Rattle.job_run.specs.declared.task_error.TaskError.TheVariants as errors
 use Rattle.job_run.specs.Faults.{fault_at}
-use Rattle.job_run.specs.Sending.{DoesScript, EndsEarly, Fails, SendsFirst, StopsAt, asks_all, does_all, sends, sends_all}
+use Rattle.job_run.specs.Sending.{AsksNext, AsksPart, Deeds, DoesFirst, DoesScript, EndsEarly, Fails, HasDone, StopsAt, adds_deeds, asks_of}
+use Rattle.job_run.specs.Sending.{collects, deeds, does_all, no_deeds, sends}
 use Rattle.job_run.specs.declared.command_fault.CommandFault.{CommandFault}
-use Rattle.job_run.proofs.Walk.{IsNext}
+use Rattle.job_run.proofs.Walk.{IsNext, Reached, begins, ends, goes_on}
 
--- the command fails
-pub stops : (task : ℕ) (commands : List Command) (old : List (List Piece)) (command : Command) (places : List ℕ)
-    (sent new : List (List Piece)) (cause : CommandFault) (fault : TaskError) →
-    IsNext (sends task) task commands old command places sent → new ≡ sent → Fails command.action sent cause →
-    fault ≡ fault_at cause command.line → StopsAt task commands old new fault
-stops task commands old command places sent new cause fault n unsent fails named = record {
-  before = n.before;
-  command = command;
-  others = n.others;
-  split = n.split;
-  own = n.own;
-  sent = unsent ∙ n.now_is;
-  cause = cause;
-  fails = subst (λ s. Fails command.action s cause) (sym unsent) fails;
-  named = named;
+-- what the commands of a task send, and what they ask
+abbrev pub sends_all : ℕ → List Command → List (List Piece) → List (List Piece)
+sends_all task commands sent = does_all (sends task) task commands sent
+
+abbrev pub asks_all : ℕ → List Command → List (List Control) → List (List Control)
+asks_all task commands asked = does_all asks_of task commands asked
+
+-- a command of the task, or of another
+sent-by : (own : Bool) (task : ℕ) (a : Action) (d : Deeds) →
+    (if own then adds_deeds task a d else d).sent ≡ (if own then sends task a d.sent else d.sent)
+sent-by true task a d = refl
+sent-by false task a d = refl
+
+asked-by : (own : Bool) (task : ℕ) (a : Action) (d : Deeds) →
+    (if own then adds_deeds task a d else d).asked ≡ (if own then asks_of a d.asked else d.asked)
+asked-by true task a d = refl
+asked-by false task a d = refl
+
+pub deeds-sent : (task : ℕ) (commands : List Command) (d : Deeds) →
+    (does_all (adds_deeds task) task commands d).sent ≡ sends_all task commands d.sent
+unfolding does_all
+deeds-sent task [] d = refl
+deeds-sent task (c ∷ others) d = deeds-sent task others (if c.task == task then adds_deeds task c.action d else d)
+    ∙ ap (sends_all task others) (sent-by (c.task == task) task c.action d)
+
+pub deeds-asked : (task : ℕ) (commands : List Command) (d : Deeds) →
+    (does_all (adds_deeds task) task commands d).asked ≡ asks_all task commands d.asked
+unfolding does_all
+deeds-asked task [] d = refl
+deeds-asked task (c ∷ others) d = deeds-asked task others (if c.task == task then adds_deeds task c.action d else d)
+    ∙ ap (asks_all task others) (asked-by (c.task == task) task c.action d)
+
+-- THE COMMANDS BEFORE these places of the task are done
+pub record Done (commands : List Command) (old : TaskState) (places : List ℕ) (now : TaskState) : Type 0 where
+  pub all : Deeds
+  pub reached : Reached (adds_deeds old.number) old.number commands (no_deeds old) places all
+  pub sent : now.sent ≡ all.sent
+  pub asked : now.asked ≡ all.asked
+  pub collected : all.collected ≤ length now.got
+
+pub done-none : (commands : List Command) (s : TaskState) → Done commands s (places_of s.number commands) s
+done-none commands s = record {
+  all = no_deeds s;
+  reached = begins (adds_deeds s.number) s.number commands (no_deeds s);
+  sent = refl;
+  asked = refl;
+  collected = omega arith;
 }
 
--- a task that does no command has sent what the first commands send
-pub sends_none : (task : ℕ) (commands : List Command) (sent : List (List Piece)) → SendsFirst task commands sent sent
+-- a wait collects at least what was sent, and no other command loses a post
+collects-more : (a : Action) (sent : List (List Piece)) (count now new : ℕ) → count ≤ now → now ≤ new → collects a sent 0 ≤ new →
+    collects a sent count ≤ new
+collects-more (Excp e) sent count now new before grows waited = omega (arith, before, grows)
+collects-more (Purge dcb mode) sent count now new before grows waited = omega (arith, before, grows)
+collects-more (PurgeTask n mode) sent count now new before grows waited = omega (arith, before, grows)
+collects-more (Close dcb) sent count now new before grows waited = omega (arith, before, grows)
+collects-more (Reset dcb) sent count now new before grows waited = omega (arith, before, grows)
+collects-more Wait sent count now new before grows waited = waited
+
+-- THE COMMAND at the first of these places comes next, in a state that is reached
+module _ (commands : List Command) (old now new : TaskState) (command : Command) (here places : List ℕ) (d : Done commands old here now)
+    (n : IsNext (adds_deeds old.number) old.number commands (no_deeds old) command places d.all) (grows : length now.got ≤ length new.got) where
+  -- it is done
+  pub done-more : new.sent ≡ sends old.number command.action now.sent → new.asked ≡ asks_of command.action now.asked →
+      collects command.action now.sent 0 ≤ length new.got → Done commands old places new
+  done-more sent asked collected = record {
+    all = adds_deeds old.number command.action d.all;
+    reached = goes_on (adds_deeds old.number) old.number commands (no_deeds old) command places d.all (adds_deeds old.number command.action d.all) n refl;
+    sent = sent ∙ ap (sends old.number command.action) d.sent;
+    asked = asked ∙ ap (asks_of command.action) d.asked;
+    collected = collects-more command.action d.all.sent d.all.collected (length now.got) (length new.got) d.collected grows
+        (subst (λ (l : List (List Piece)). collects command.action l 0 ≤ length new.got) d.sent collected);
+  }
+
+  -- it fails
+  pub stops : (cause : CommandFault) (fault : TaskError) → new.sent ≡ now.sent → AsksPart command.action now.asked new.asked →
+      Fails command.action now.sent cause → fault ≡ fault_at cause command.line → StopsAt commands old new fault
+  stops cause fault unsent part fails named = record {
+    before = n.before;
+    command = command;
+    others = n.others;
+    split = n.split;
+    own = n.own;
+    done = record {
+      sent = unsent ∙ d.sent ∙ ap (λ (e : Deeds). e.sent) n.now_is;
+      asked = subst (λ (l : List (List Control)). AsksPart command.action l new.asked) (d.asked ∙ ap (λ (e : Deeds). e.asked) n.now_is) part;
+      collected = subst (λ (e : Deeds). e.collected ≤ length new.got) n.now_is (omega (arith, d.collected, grows));
+    };
+    cause = cause;
+    fails = subst (λ s. Fails command.action s cause) (sym unsent) fails;
+    named = named;
+  }
+
+-- all commands are done
+pub done-all : (commands : List Command) (old now : TaskState) (places : List ℕ) (i number : ℕ) → places ≡ places_of number commands →
+    number ≡ old.number → length places ≤ i → Done commands old (drop i (places_of old.number commands)) now → HasDone commands [] old now
+done-all commands old now places i number value same past d =
+    let all = ends (adds_deeds old.number) old.number number commands (no_deeds old) d.all places i value same past d.reached in
+    record {
+      sent = d.sent ∙ ap (λ (e : Deeds). e.sent) all;
+      asked = d.asked ∙ ap (λ (e : Deeds). e.asked) all;
+      collected = subst (λ (e : Deeds). e.collected ≤ length now.got) all d.collected;
+    }
+
+-- ---- the end of a task
+
+part-none : (a : Action) (asked : List (List Control)) → AsksPart a asked asked
+part-none (Excp e) asked = refl
+part-none (Purge dcb mode) asked = refl
+part-none (PurgeTask n mode) asked = record { count = refl; each = λ unit. inl refl }
+part-none (Close dcb) asked = refl
+part-none (Reset dcb) asked = refl
+part-none Wait asked = refl
+
+next-none : (commands : List Command) (asked : List (List Control)) → AsksNext commands asked asked
+next-none [] asked = refl
+next-none (c ∷ others) asked = part-none c.action asked
+
+-- a task that does no command
+pub does-none : (commands : List Command) (s : TaskState) → DoesFirst commands s s
 unfolding does_all
-sends_none task commands sent = record { before = []; others = commands; split = refl; sent = refl }
+does-none commands s = record {
+  before = [];
+  others = commands;
+  split = refl;
+  done = record { sent = refl; asked = next-none commands s.asked; collected = omega arith };
+}
+
+-- and one that collects more, after its commands
+still : (commands next : List Command) (old mid new : TaskState) → HasDone commands next old mid → new.sent ≡ mid.sent → new.asked ≡ mid.asked →
+    length mid.got ≤ length new.got → HasDone commands next old new
+still commands next old mid new d sent asked grows = record {
+  sent = sent ∙ d.sent;
+  asked = subst (λ (l : List (List Control)). AsksNext next (deeds commands old).asked l) (sym asked) d.asked;
+  collected = omega (arith, d.collected, grows);
+}
+
+still-stops : (commands : List Command) (old mid new : TaskState) (fault : TaskError) → StopsAt commands old mid fault → new.sent ≡ mid.sent →
+    new.asked ≡ mid.asked → length mid.got ≤ length new.got → StopsAt commands old new fault
+still-stops commands old mid new fault s sent asked grows = record {
+  before = s.before;
+  command = s.command;
+  others = s.others;
+  split = s.split;
+  own = s.own;
+  done = still s.before (s.command ∷ s.others) old mid new s.done sent asked grows;
+  cause = s.cause;
+  fails = subst (λ (l : List (List Piece)). Fails s.command.action l s.cause) (sym sent) s.fails;
+  named = s.named;
+}
+
+first-of : (commands : List Command) (old new : TaskState) (fault : TaskError) → StopsAt commands old new fault → DoesFirst commands old new
+first-of commands old new fault s = record { before = s.before; others = s.command ∷ s.others; split = s.split; done = s.done }
+
+early-by : (fault : TaskError) (commands : List Command) (old new : TaskState) → StopsAt commands old new fault → EndsEarly commands old new fault
+early-by (errors.Line line name) commands old new s = s
+early-by errors.NoMemory commands old new s = first-of commands old new errors.NoMemory s
+
+-- a task that has done its commands, or stopped at one of them, and then collects more
+module _ {A : Type 0} (commands : List Command) (old mid new : TaskState) where
+  -- memory runs out there
+  pub first-by : (r : Result A TaskError) → OnOk r (HasDone commands [] old mid) → IfErr r (StopsAt commands old mid) → new.sent ≡ mid.sent →
+      new.asked ≡ mid.asked → length mid.got ≤ length new.got → DoesFirst commands old new
+  first-by (Ok x) done stopped sent asked grows = record {
+    before = commands;
+    others = [];
+    split = sym (append-nil commands);
+    done = still commands [] old mid new done sent asked grows;
+  }
+  first-by (Err e) done stopped sent asked grows = first-of commands old new e (still-stops commands old mid new e stopped sent asked grows)
+
+  -- or not
+  pub done-still : (r : Result A TaskError) → OnOk r (HasDone commands [] old mid) → new.sent ≡ mid.sent → new.asked ≡ mid.asked →
+      length mid.got ≤ length new.got → OnOk r (HasDone commands [] old new)
+  done-still (Ok x) done sent asked grows = still commands [] old mid new done sent asked grows
+  done-still (Err e) done sent asked grows = tt
+
+  pub stops-still : (r : Result A TaskError) → IfErr r (StopsAt commands old mid) → new.sent ≡ mid.sent → new.asked ≡ mid.asked →
+      length mid.got ≤ length new.got → IfErr r (EndsEarly commands old new)
+  stops-still (Ok x) stopped sent asked grows = tt
+  stops-still (Err e) stopped sent asked grows = early-by e commands old new (still-stops commands old mid new e stopped sent asked grows)
+
+-- a task that runs out of memory has done its first commands
+pub ends_full : {A : Type 0} (r : Result A TaskError) (commands : List Command) (old new : TaskState) →
+    IsErrAnd r (λ e. e ≡ errors.NoMemory) → DoesFirst commands old new → IfErr r (EndsEarly commands old new)
+ends_full (Ok x) commands old new full first = tt
+ends_full (Err e) commands old new full first = rw full first
 
 -- a task does its script, by what it has done at its end
 pub does_script : {L : Type 0} (r : Result L TaskError) (commands : List Command) (old new : TaskState) →
-    OnOk r (new.sent ≡ sends_all old.number commands old.sent) → OnOk r (new.asked ≡ asks_all old.number commands old.asked) →
-    OnOk r (awaited_count new ≡ 0) → IfErr r (EndsEarly old.number commands old.sent new.sent) → DoesScript commands old new r
-does_script (Ok x) commands old new sent asked awaits early = (sent, asked, awaits)
-does_script (Err e) commands old new sent asked awaits early = early
-
--- a task that runs out of memory has sent what its first commands send
-pub ends_full : {A : Type 0} (r : Result A TaskError) (task : ℕ) (commands : List Command) (old new : List (List Piece)) →
-    IsErrAnd r (λ e. e ≡ errors.NoMemory) → SendsFirst task commands old new → IfErr r (EndsEarly task commands old new)
-ends_full (Ok x) task commands old new full first = tt
-ends_full (Err e) task commands old new full first = rw full first
+    OnOk r (HasDone commands [] old new) → OnOk r (awaited_count new ≡ 0) → IfErr r (EndsEarly commands old new) →
+    DoesScript commands old new r
+does_script (Ok x) commands old new done awaits early = (done, awaits)
+does_script (Err e) commands old new done awaits early = early

@@ -24,8 +24,10 @@ use Rattle.job_run.specs.declared.task_error.TaskError.{TaskError}
 use Rattle.job_run.specs.declared.task_error.TaskError.TheVariants as errors
 use Rattle.job_run.specs.Ending.{EndsBeside, IsLate, StopsTask}
 use Rattle.job_run.specs.Faults.{fault_at}
-use Rattle.job_run.specs.Sending.{DoesScript, Fails, StopsAt}
+use Rattle.job_run.specs.Sending.{DoesScript, Fails, StopsAt, no_deeds}
 use Rattle.job_run.proofs.Requested.{sends_count}
+use Rattle.job_run.proofs.Sent.{deeds-sent, sends_all}
+use Rattle.excp_system.specs.Opening.{fresh_task}
 
 -- an action that fails after the last number is an EXCP
 excp_of : (a : Action) (sent : List (List Piece)) → Fails a sent NoNumber →
@@ -42,16 +44,19 @@ at_line : TaskError → FaultAt
 at_line (errors.Line line name) = record { line = line; name = name }
 at_line errors.NoMemory = record { line = 0; name = Request }
 
-stops_task : (script : Script) (units task line : ℕ) (name : FaultName) (sent : List (List Piece)) → task < script.set_up.tasks →
-    (s : StopsAt task script.commands.items (replicate units []) sent (errors.Line line name)) → (cause : CommandFault) →
+stops_task : (script : Script) (units task line : ℕ) (name : FaultName) (new : TaskState) → task < script.set_up.tasks →
+    (s : StopsAt script.commands.items (fresh_task units task) new (errors.Line line name)) → (cause : CommandFault) →
     s.cause ≡ cause → StopsTask (said script) (record { line = line; name = name })
 unfolding at_line
-stops_task script units task line name sent inside s NoMemory is = absurd (cc (s.named ∙ ap (λ (f : CommandFault). fault_at f s.command.line) is))
-stops_task script units task line name sent inside s NoNumber is =
+stops_task script units task line name new inside s NoMemory is = absurd (cc (s.named ∙ ap (λ (f : CommandFault). fault_at f s.command.line) is))
+stops_task script units task line name new inside s NoNumber is =
+    let sent = new.sent in
+    let sent_is : sent ≡ sends_all task s.before (replicate units []) =
+    s.done.sent ∙ deeds-sent task s.before (no_deeds (fresh_task units task)) in
     let e = excp_of s.command.action sent (subst (λ (f : CommandFault). Fails s.command.action sent f) is s.fails) in
     let last : 2 ^ 32 - 1 ≤ length (slice_index_or sent e.0.dcb.unit []) = e.2 in
     let count = sends_count task units e.0.dcb.unit s.before
-    (subst (λ (l : List (List Piece)). 1 ≤ length (slice_index_or l e.0.dcb.unit [])) s.sent (omega (arith, last))) in
+    (subst (λ (l : List (List Piece)). 1 ≤ length (slice_index_or l e.0.dcb.unit [])) sent_is (omega (arith, last))) in
     record {
       task = task;
       of_script = inside;
@@ -62,7 +67,7 @@ stops_task script units task line name sent inside s NoNumber is =
       own = s.own;
       issued = excp_said e.0;
       issues = ap action_said e.1;
-      last = subst (λ (n : ℕ). 2 ^ 32 - 1 ≤ n) (ap (λ (l : List (List Piece)). length (slice_index_or l e.0.dcb.unit [])) s.sent ∙ count) last;
+      last = subst (λ (n : ℕ). 2 ^ 32 - 1 ≤ n) (ap (λ (l : List (List Piece)). length (slice_index_or l e.0.dcb.unit [])) sent_is ∙ count) last;
       named = ap at_line (s.named ∙ ap (λ (f : CommandFault). fault_at f s.command.line) is);
     }
 
@@ -73,9 +78,9 @@ late_by : {L : Type 0} (script : Script) (units count : ℕ) (outcomes : List (R
 late_by script units count outcomes tasks (faults.Line line name) placed run same (t, at) =
     let w = get_there tasks outcomes t (Err (errors.Line line name)) run.count_is at in
     let within : t < length tasks = slice_get_within tasks t w.0 w.1 in
-    let stops : StopsAt t script.commands.items (replicate units []) w.0.sent (errors.Line line name) =
+    let stops : StopsAt script.commands.items (fresh_task units t) w.0 (errors.Line line name) =
     run.each t w.0 (Err (errors.Line line name)) w.1 at in
-    stops_task script units t line name w.0.sent (omega (arith, within, placed.count_is, same)) stops stops.cause refl
+    stops_task script units t line name w.0 (omega (arith, within, placed.count_is, same)) stops stops.cause refl
 late_by script units count outcomes tasks faults.NoMemory placed run same ends = tt
 late_by script units count outcomes tasks faults.NoThread placed run same ends = absurd ends
 late_by script units count outcomes tasks faults.Unmatched placed run same ends = absurd ends

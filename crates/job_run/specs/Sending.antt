@@ -1,12 +1,13 @@
 -- WHAT A TASK SENDS AND ASKS by the commands of a script, and why a command fails (profile).
-use Rattle.std.specs.Prelude.{◌≡◌, ◌≤◌, ◌+◌, ◌-◌, ◌^◌, ◌==◌, ℕ, true, List, [], ◌∷◌, ◌++◌, length, map, slice_index_or, slice_set, if◌then◌else◌}
+use Rattle.std.specs.Prelude.{◌≡◌, ◌≤◌, ◌⊎◌, ◌+◌, ◌-◌, ◌^◌, ◌==◌, ℕ, true, List, [], ◌∷◌, ◌++◌, length, map, slice_index_or, slice_set, if◌then◌else◌}
 use Rattle.std.specs.Prelude.{Result, Ok, Err}
 use Rattle.std.specs.Arc.{arc_value}
+use Rattle.std.specs.List.{sum_by}
 use Rattle.request_piece.specs.Requests.{request_of}
 use Rattle.request_piece.specs.declared.piece.Name.{Name}
 use Rattle.request_piece.specs.declared.piece.Piece.{Piece}
 use Rattle.request_piece.specs.declared.scope.Scope.TheVariants as scopes
-use Rattle.excp_system.specs.Controls.{asks}
+use Rattle.excp_system.specs.Controls.{asked_of, asks}
 use Rattle.excp_system.specs.States.{TaskState, awaited_count}
 use Rattle.excp_system.specs.declared.control.Control.{Control}
 use Rattle.excp_system.specs.declared.control.Control.TheVariants as controls
@@ -57,14 +58,6 @@ unfoldable pub does_all : {S : Type 0} → (Action → S → S) → ℕ → List
 does_all does task [] s = s
 does_all does task (c ∷ others) s = does_all does task others (if c.task == task then does c.action s else s)
 
--- what they send
-abbrev pub sends_all : ℕ → List Command → List (List Piece) → List (List Piece)
-sends_all task commands sent = does_all (sends task) task commands sent
-
--- what they ask
-abbrev pub asks_all : ℕ → List Command → List (List Control) → List (List Control)
-asks_all task commands asked = does_all asks_of task commands asked
-
 -- an EXCP fails if memory runs out, or if the task has used its last number at the unit
 abbrev pub ExcpFails : OneExcp → List (List Piece) → CommandFault → Type 0
 ExcpFails e sent NoNumber = 2 ^ 32 - 1 ≤ length (slice_index_or sent e.dcb.unit [])
@@ -79,34 +72,87 @@ Fails (Close dcb) sent fault = fault ≡ NoMemory
 Fails (Reset dcb) sent fault = fault ≡ NoMemory
 Fails Wait sent fault = fault ≡ NoMemory
 
--- a task stops at one of its commands, which fails: it has sent what the commands before send, and the fault names the
--- command's line
-pub record StopsAt (task : ℕ) (commands : List Command) (old new : List (List Piece)) (fault : TaskError) : Type 0 where
+-- a control was asked of some units, of each once at most
+pub record AsksSome (c : Control) (old new : List (List Control)) : Type 0 where
+  pub count : length new ≡ length old
+  pub each : (unit : ℕ) → (asked_of new unit ≡ asked_of old unit) ⊎ (asked_of new unit ≡ asked_of old unit ++ c ∷ [])
+
+-- what a command that fails has asked: nothing, but for a purge of a task, which goes on to the other units
+abbrev pub AsksPart : Action → List (List Control) → List (List Control) → Type 0
+AsksPart (Excp e) old new = new ≡ old
+AsksPart (Purge dcb mode) old new = new ≡ old
+AsksPart (PurgeTask other mode) old new = AsksSome (controls.Purge (scopes.Task other) mode) old new
+AsksPart (Close dcb) old new = new ≡ old
+AsksPart (Reset dcb) old new = new ≡ old
+AsksPart Wait old new = new ≡ old
+
+-- the first of these commands has asked no more than a part
+abbrev pub AsksNext : List Command → List (List Control) → List (List Control) → Type 0
+AsksNext [] old new = new ≡ old
+AsksNext (c ∷ others) old new = AsksPart c.action old new
+
+-- WHAT A TASK HAS DONE: what it sent to each unit, the controls that it asked of each, and how many posts it has collected at least
+pub record Deeds : Type 0 where
+  pub sent : List (List Piece)
+  pub asked : List (List Control)
+  pub collected : ℕ
+
+-- a wait collects a post for each request that was sent
+abbrev pub collects : Action → List (List Piece) → ℕ → ℕ
+collects (Excp e) sent count = count
+collects (Purge dcb mode) sent count = count
+collects (PurgeTask other mode) sent count = count
+collects (Close dcb) sent count = count
+collects (Reset dcb) sent count = count
+collects Wait sent count = sum_by length sent
+
+abbrev pub adds_deeds : ℕ → Action → Deeds → Deeds
+adds_deeds task a d = record {
+  sent = sends task a d.sent;
+  asked = asks_of a d.asked;
+  collected = collects a d.sent d.collected;
+}
+
+-- nothing yet
+abbrev pub no_deeds : TaskState → Deeds
+no_deeds s = record { sent = s.sent; asked = s.asked; collected = 0 }
+
+-- by these commands of a script, its own alone
+abbrev pub deeds : List Command → TaskState → Deeds
+deeds commands s = does_all (adds_deeds s.number) s.number commands (no_deeds s)
+
+-- a task has done its commands among these, in order, and no other, but for a part of a purge that comes next: it sent and asked what
+-- they say, and has collected a post for each request that came before a wait
+pub record HasDone (commands next : List Command) (old new : TaskState) : Type 0 where
+  pub sent : new.sent ≡ (deeds commands old).sent
+  pub asked : AsksNext next (deeds commands old).asked new.asked
+  pub collected : (deeds commands old).collected ≤ length new.got
+
+-- a task stops at one of its commands, which fails: it has done the commands before, and the fault names the command's line
+pub record StopsAt (commands : List Command) (old new : TaskState) (fault : TaskError) : Type 0 where
   pub before : List Command
   pub command : Command
   pub others : List Command
   pub split : commands ≡ before ++ command ∷ others
-  pub own : command.task ≡ task
-  pub sent : new ≡ sends_all task before old
+  pub own : command.task ≡ old.number
+  pub done : HasDone before (command ∷ others) old new
   pub cause : CommandFault
-  pub fails : Fails command.action new cause
+  pub fails : Fails command.action new.sent cause
   pub named : fault ≡ fault_at cause command.line
 
--- a task has sent what the first commands send
-pub record SendsFirst (task : ℕ) (commands : List Command) (old new : List (List Piece)) : Type 0 where
+-- a task has done its first commands
+pub record DoesFirst (commands : List Command) (old new : TaskState) : Type 0 where
   pub before : List Command
   pub others : List Command
   pub split : commands ≡ before ++ others
-  pub sent : new ≡ sends_all task before old
+  pub done : HasDone before others old new
 
 -- a task ends before its last command: it stops at one of its commands, or runs out of memory
-abbrev pub EndsEarly : ℕ → List Command → List (List Piece) → List (List Piece) → TaskError → Type 0
-EndsEarly task commands old new (errors.Line line name) = StopsAt task commands old new (errors.Line line name)
-EndsEarly task commands old new errors.NoMemory = SendsFirst task commands old new
+abbrev pub EndsEarly : List Command → TaskState → TaskState → TaskError → Type 0
+EndsEarly commands old new (errors.Line line name) = StopsAt commands old new (errors.Line line name)
+EndsEarly commands old new errors.NoMemory = DoesFirst commands old new
 
--- a task does its commands of a script to their end, or ends early. At their end it has sent and asked what they say, and
--- collected at least as many posts as it sent requests
+-- a task does its commands of a script to their end, and then collects at least as many posts as it sent requests; or it ends early
 abbrev pub DoesScript : {L : Type 0} → List Command → TaskState → TaskState → Result L TaskError → Type 0
-DoesScript commands old new (Ok lines) =
-    (new.sent ≡ sends_all old.number commands old.sent) × (new.asked ≡ asks_all old.number commands old.asked) × (awaited_count new ≡ 0)
-DoesScript commands old new (Err fault) = EndsEarly old.number commands old.sent new.sent fault
+DoesScript commands old new (Ok lines) = HasDone commands [] old new × (awaited_count new ≡ 0)
+DoesScript commands old new (Err fault) = EndsEarly commands old new fault

@@ -1,13 +1,13 @@
 //! What one task does of a script.
 
-ghost use Rattle.std.specs.Prelude.{◌≡◌, ◌<◌, ◌≤◌, All, IfErr, IfNone, IfOk, OnErr, OnOk, vec_len};
+ghost use Rattle.std.specs.Prelude.{◌≡◌, ◌<◌, ◌≤◌, All, IfErr, IfNone, IfOk, OnErr, OnOk, [], length, vec_len};
 ghost use Rattle.excp_system.specs.Calls.{next_name};
 ghost use Rattle.excp_system.specs.States.{awaited_count};
 ghost use Rattle.job_mount.specs.Requests.{CanBeDone, CanIssue};
 ghost use Rattle.job_script.specs.Commands.{NamesUnits};
 ghost use Rattle.post_lines.specs.Slots.{slots_of};
 ghost use Rattle.job_run.specs.Filling.{FillsSlots, slots_for};
-ghost use Rattle.job_run.specs.Sending.{EndsEarly, ExcpFails, Fails, StopsAt, asks_all, asks_of, sends, sends_all, sends_excp, sends_one};
+ghost use Rattle.job_run.specs.Sending.{AsksPart, EndsEarly, ExcpFails, Fails, HasDone, StopsAt, asks_of, collects, sends, sends_excp, sends_one};
 
 use crate::command_fault::CommandFault;
 use crate::notes::Notes;
@@ -73,10 +73,9 @@ impl<'a, 'r, S: Opened<AnyDevice>> Job<'a, 'r, S> {
     ) -> Result<TaskEnd<N>, TaskError>
         ensures number { client.new.number ≡ client.old.number }
         ensures noted { IfOk result (λ end. FillsSlots client.old.got (slots_for self.now.script.now client.old.number) client.new.got (slots_of end.slots)) }
-        ensures sent { OnOk result (client.new.sent ≡ sends_all client.old.number self.now.script.now.commands.items client.old.sent) }
-        ensures asked { OnOk result (client.new.asked ≡ asks_all client.old.number self.now.script.now.commands.items client.old.asked) }
+        ensures done { OnOk result (HasDone self.now.script.now.commands.items [] client.old client.new) }
         ensures awaits_none { OnOk result (awaited_count client.new ≡ 0) }
-        ensures stopped { IfErr result (EndsEarly client.old.number self.now.script.now.commands.items client.old.sent client.new.sent) }
+        ensures stopped { IfErr result (EndsEarly self.now.script.now.commands.items client.old client.new) }
     {
         let mut end = TaskEnd::new(alloc, self.script, client.number())?;
         self.to_the_end(rt, alloc, client, &mut end.slots, &mut end.notes)?;
@@ -94,10 +93,9 @@ impl<'a, 'r, S: Opened<AnyDevice>> Job<'a, 'r, S> {
     ) -> Result<(), TaskError>
         ensures number { client.new.number ≡ client.old.number }
         ensures noted { FillsSlots client.old.got (slots_of slots.old) client.new.got (slots_of slots.new) }
-        ensures sent { OnOk result (client.new.sent ≡ sends_all client.old.number self.now.script.now.commands.items client.old.sent) }
-        ensures asked { OnOk result (client.new.asked ≡ asks_all client.old.number self.now.script.now.commands.items client.old.asked) }
+        ensures done { OnOk result (HasDone self.now.script.now.commands.items [] client.old client.new) }
         ensures awaits_none { OnOk result (awaited_count client.new ≡ 0) }
-        ensures stopped { IfErr result (EndsEarly client.old.number self.now.script.now.commands.items client.old.sent client.new.sent) }
+        ensures stopped { IfErr result (EndsEarly self.now.script.now.commands.items client.old client.new) }
     {
         let done = self.commands(rt, alloc, client, slots, notes);
         self.collect(rt, client, slots, notes)?;
@@ -105,8 +103,9 @@ impl<'a, 'r, S: Opened<AnyDevice>> Job<'a, 'r, S> {
     }
 
     /// Does the commands of a task, in order, up to the first fault. Whatever other threads do, the task sends the requests
-    /// of its commands, in their order, and no other. If no command fails, it asks of each unit the purges, closes and
-    /// resets of its commands there, in their order, and no other.
+    /// of its commands, in their order, and no other, and asks of each unit the purges, closes and resets of its commands
+    /// there, in their order, and no other. A command begins after those before it: one that fails leaves what the commands
+    /// before it come to, so a task with a wait has collected a post for each request before that.
     ///
     /// Errors: the first command that fails, as an `excp` after the last number; out of memory.
     pub fn commands<R: Wait, N: Notes>(
@@ -119,9 +118,8 @@ impl<'a, 'r, S: Opened<AnyDevice>> Job<'a, 'r, S> {
     ) -> Result<(), TaskError>
         ensures number { client.new.number ≡ client.old.number }
         ensures noted { FillsSlots client.old.got (slots_of slots.old) client.new.got (slots_of slots.new) }
-        ensures sent { OnOk result (client.new.sent ≡ sends_all client.old.number self.now.script.now.commands.items client.old.sent) }
-        ensures asked { OnOk result (client.new.asked ≡ asks_all client.old.number self.now.script.now.commands.items client.old.asked) }
-        ensures stopped { IfErr result (StopsAt client.old.number self.now.script.now.commands.items client.old.sent client.new.sent) }
+        ensures done { OnOk result (HasDone self.now.script.now.commands.items [] client.old client.new) }
+        ensures stopped { IfErr result (StopsAt self.now.script.now.commands.items client.old client.new) }
     {
         for place in self.script.places_of(client.number()) {
             let command = &self.script.commands[*place];
@@ -148,7 +146,9 @@ impl<'a, 'r, S: Opened<AnyDevice>> Job<'a, 'r, S> {
         ensures noted { FillsSlots client.old.got (slots_of slots.old) client.new.got (slots_of slots.new) }
         ensures sent { OnOk result (client.new.sent ≡ sends client.old.number command.now.action client.old.sent) }
         ensures asked { OnOk result (client.new.asked ≡ asks_of command.now.action client.old.asked) }
+        ensures collected { OnOk result (collects command.now.action client.old.sent 0 ≤ length client.new.got) }
         ensures unsent { OnErr result (client.new.sent ≡ client.old.sent) }
+        ensures unasked { OnErr result (AsksPart command.now.action client.old.asked client.new.asked) }
         ensures fails { IfErr result (Fails command.now.action client.old.sent) }
     {
         match &command.action {

@@ -2,7 +2,7 @@
 
 ghost use Rattle.std.specs.Prelude.{◌≡◌, ◌<◌, OnErr, OnOk, length, true};
 ghost use Rattle.excp_system.specs.Controls.{asks};
-ghost use Rattle.job_run.specs.Sending.{asks_each};
+ghost use Rattle.job_run.specs.Sending.{AsksSome, asks_each};
 
 use crate::notes::Notes;
 use any_device::AnyDevice;
@@ -48,7 +48,7 @@ pub(crate) fn control<S: Opened<AnyDevice>, R: Wait, N: Notes>(
 }
 
 /// Purges the requests of a task at each of these units, in order, each under its lock. It goes on after a unit where memory runs
-/// out, and then returns that error. Without an error, the purge was asked of every unit.
+/// out, and then returns that error. Without an error, the purge was asked of every unit; with one, of some.
 pub(crate) fn purge_task<S: Opened<AnyDevice>, R: Wait, N: Notes>(
     rt: &R,
     system: &System<'_, S, AnyDevice>,
@@ -61,6 +61,7 @@ pub(crate) fn purge_task<S: Opened<AnyDevice>, R: Wait, N: Notes>(
     requires { units ≡ S.rows.units }
     ensures others { client.new ≡ record client.old { asked = client.new.asked } }
     ensures asked { OnOk result (client.new.asked ≡ asks_each (Control.Purge (Scope.Task task) mode) client.old.asked) }
+    ensures unasked { OnErr result (AsksSome (Control.Purge (Scope.Task task) mode) client.old.asked client.new.asked) }
 {
     client.holds();
     let mut purged = Ok(());

@@ -4,7 +4,7 @@ use Rattle.request_piece.specs.declared.scope.Scope.TheVariants.{Task}
 use Rattle.excp_system.specs.declared.control.Control.{Control}
 use Rattle.excp_system.specs.declared.control.Control.TheVariants.{Purge}
 use Rattle.excp_system.specs.States.{TaskState}
-use Rattle.job_run.proofs.Asked.{asks_first, first_all, first_and}
+use Rattle.job_run.proofs.Asked.{asks_first, first_all, first_and, some_and, some_none}
 use Rattle.job_run.proofs.unit_calls.purge_task.Goals as goal
 
 pub loop-unit-preserved : goal.loop-unit-preserved
@@ -16,7 +16,8 @@ loop-unit-preserved g c =
     let within : c.loop-unit.unit < length first = omega (arith, c.loop-unit-test.true, c.holds.ensures.asked, c.requires) in
     record {
       others = e.others ∙ ap (λ (v : TaskState). record { number = v.number; sent = v.sent; got = v.got; asked = new }) i.others;
-      count = e.count ∙ i.count;
+      some = some_and c.loop-unit.unit (Purge (Task c.args.task) c.args.mode) first c.loop-unit.client.asked new c.control-here.result within
+          i.some e.asked e.unasked;
       asked = first_and c.loop-unit.unit (Purge (Task c.args.task) c.args.mode) first c.loop-unit.client.asked new c.loop-unit.purged
           c.control-here.result c.and-purged.result c.and-purged.ensures within i.asked e.asked;
     }
@@ -30,3 +31,6 @@ returns-clause-asked g c =
     on_ok_weaker c.loop-unit.purged
     (λ (e : c.loop-unit.client.asked ≡ asks_first c.loop-unit.unit purge first). e ∙ first_all c.loop-unit.unit purge first all)
     c.loop-unit.invariant.asked
+
+pub returns-clause-unasked : goal.returns-clause-unasked
+returns-clause-unasked g c = on_err c.loop-unit.purged c.loop-unit.invariant.some.some

@@ -2,16 +2,13 @@ use Rattle.std.proofs.Common.{◌≡◌, drop}
 use Rattle.job_script.specs.Tasks.{places_of}
 use Rattle.post_lines.specs.Slots.{slots_of}
 use Rattle.job_run.specs.Filling.{FillsSlots}
-use Rattle.job_run.specs.Sending.{asks_of, sends}
-use Rattle.job_run.proofs.Walk.{Reached}
+use Rattle.job_run.proofs.Sent.{Done}
 use Rattle.job_run.proofs.job.Job.commands.Given as goal
 
 abbrev pub invariant-loop-place : goal.invariant-loop-place
 invariant-loop-place g l = record {
   number : l.client.number ≡ l.fn.client.number;
   noted : FillsSlots l.fn.client.got (slots_of l.fn.slots) l.client.got (slots_of l.slots);
-  reached : (let commands = l.self.script.now.commands.items in
-      Reached (sends l.fn.client.number) l.fn.client.number commands l.fn.client.sent (drop l.place-index (places_of l.fn.client.number commands)) l.client.sent);
-  asked : (let commands = l.self.script.now.commands.items in
-      Reached asks_of l.fn.client.number commands l.fn.client.asked (drop l.place-index (places_of l.fn.client.number commands)) l.client.asked);
+  done : (let commands = l.self.script.now.commands.items in
+      Done commands l.fn.client (drop l.place-index (places_of l.fn.client.number commands)) l.client);
 }

@@ -10,7 +10,7 @@ returns-clause-runs g c =
     let own = c.new.result.script.now in
     subst (λ (s : Script). RunsScript s c.args.client.now c.task.new.client c.task.result) c.new.ensures
     (record {
-      does = does_script c.task.result own.commands.items c.args.client.now c.task.new.client c.task.ensures.sent
-          c.task.ensures.asked c.task.ensures.awaits_none c.task.ensures.stopped;
+      does = does_script c.task.result own.commands.items c.args.client.now c.task.new.client c.task.ensures.done
+          c.task.ensures.awaits_none c.task.ensures.stopped;
       fills = fills_own c.task.result own c.args.client.now c.task.new.client c.task.ensures.noted;
     })
