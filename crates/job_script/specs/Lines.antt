@@ -1,7 +1,8 @@
 -- ONE LINE: what it says by its words alone, or its first fault, Words or Number (profile). One rule for each kind of line.
-use Rattle.std.specs.Prelude.{ℕ, Bool, false, List, [], ◌∷◌, length, drop, Option, Some, None, Result, Ok, Err, ◌==◌, if◌then◌else◌}
+use Rattle.std.specs.Prelude.{◌≡◌, ◌<◌, ℕ, Bool, false, List, [], ◌∷◌, length, drop, ◌==◌, if◌then◌else◌}
+use Rattle.std.specs.Prelude.{Option, Some, None, Result, Ok, Err}
 use Rattle.tape_unit.specs.Item.{tape_mark, block}
-use Rattle.script_words.specs.Text.{is_printable, words}
+use Rattle.script_words.specs.Text.{is_printable, leading_line, lines, words}
 use Rattle.job_script.specs.declared.fault.FaultName.{FaultName}
 use Rattle.job_script.specs.declared.fault.FaultName.TheVariants as names
 use Rattle.job_script.specs.declared.line.ExcpLine.{ExcpLine}
@@ -217,3 +218,9 @@ by_kind (Some verb) line ws = by_verb verb line ws
 -- the line with this number
 abbrev pub line_of : ℕ → List ℕ → Result LineSaid FaultName
 line_of line text = line_kind (is_printable text) (words text) >>= λ kind. by_kind kind line (words text)
+
+-- the first line of a text has this number and says this, and a shorter text comes after it
+pub record LeadingSays (number : ℕ) (text : List ℕ) (said : LineSaid) (after : List ℕ) : Type 0 where
+  pub split : lines text ≡ leading_line text ∷ lines after
+  pub says : line_of number (leading_line text) ≡ Ok said
+  pub shorter : length after < length text

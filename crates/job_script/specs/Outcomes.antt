@@ -34,7 +34,7 @@ Returns view (Err (Fault fault)) read = read ≡ Err fault
 Returns view (Err NoMemory) read = Unit {0}
 
 -- a call left what was to be read, out of memory apart
-abbrev pub Leads : {S : Type 0} → Result (Unit {0}) Refusal → S → Result S FaultName → Type 0
+abbrev pub Leads : {X S : Type 0} → Result X Refusal → S → Result S FaultName → Type 0
 Leads (Ok x) new read = read ≡ Ok new
 Leads (Err (Fault fault)) new read = read ≡ Err fault
 Leads (Err NoMemory) new read = Unit {0}
@@ -51,16 +51,20 @@ MakesArea storage (Ok area) = (is_area storage ≡ Ok tt) × (area ≡ storage)
 MakesArea storage (Err (Fault fault)) = is_area storage ≡ Err fault
 MakesArea storage (Err NoMemory) = Unit {0}
 
--- a call left what the line with this number says, out of memory apart
-abbrev pub LeadsAt : {S : Type 0} → ℕ → Result (Unit {0}) JobError → S → Result S FaultName → Type 0
+-- a call reported the fault of the line with this number, out of memory apart
+abbrev pub ReportsAt : {S : Type 0} → ℕ → JobError → Result S FaultName → Type 0
+ReportsAt line (faults.Line at n) read = (at ≡ line) × (read ≡ Err n)
+ReportsAt line faults.NoMemory read = Unit {0}
+ReportsAt line faults.TooLong read = ⊥
+ReportsAt line faults.Unreadable read = ⊥
+ReportsAt line faults.NotWritten read = ⊥
+ReportsAt line faults.Unmatched read = ⊥
+ReportsAt line faults.NoThread read = ⊥
+
+-- a call left what the line with this number says, or reported its fault, out of memory apart
+abbrev pub LeadsAt : {X S : Type 0} → ℕ → Result X JobError → S → Result S FaultName → Type 0
 LeadsAt line (Ok x) new read = read ≡ Ok new
-LeadsAt line (Err (faults.Line at n)) new read = (at ≡ line) × (read ≡ Err n)
-LeadsAt line (Err faults.NoMemory) new read = Unit {0}
-LeadsAt line (Err faults.TooLong) new read = ⊥
-LeadsAt line (Err faults.Unreadable) new read = ⊥
-LeadsAt line (Err faults.NotWritten) new read = ⊥
-LeadsAt line (Err faults.Unmatched) new read = ⊥
-LeadsAt line (Err faults.NoThread) new read = ⊥
+LeadsAt line (Err fault) new read = ReportsAt line fault read
 
 -- a call returned a value that says what the grammar gives, or its first fault with its line, out of memory apart
 abbrev pub Gives : {X S : Type 0} → (X → S) → Result X JobError → Result S FaultAt → Type 0

@@ -3,6 +3,7 @@
 
 pub mod areas;
 pub mod commands;
+pub mod front;
 pub mod units;
 mod verb;
 

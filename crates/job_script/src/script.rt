@@ -1,6 +1,6 @@
 //! A script: its set-up and its commands, as its lines say, and the first fault of its lines.
 
-ghost use Rattle.std.specs.Prelude.{◌≡◌, ◌<◌, ◌≤◌, ◌==◌, ◌++◌, ◌∷◌, [], ℕ, All, Contains, IfOk, OnErr, OnOk, get_or, if◌then◌else◌, vec_len};
+ghost use Rattle.std.specs.Prelude.{◌≡◌, ◌<◌, ◌≤◌, ◌==◌, ◌++◌, ◌∷◌, [], ℕ, All, Contains, IfOk, OnErr, OnOk, get_or, if◌then◌else◌, length, option_copied, vec_len};
 ghost use Rattle.job_script.specs.Commands.{NamesUnits, most, request_count_of, request_count_to};
 ghost use Rattle.job_script.specs.Tasks.{list_of, places_of};
 ghost use Rattle.job_script.specs.declared.command.Command.{Command as OneCommand};
@@ -10,7 +10,7 @@ use crate::fault::{FaultName, JobError};
 use crate::line::areas::{area, opening, tasks};
 use crate::line::commands::{close, excp, purge, purge_task, reset, wait};
 use crate::line::units::{block, disk, fault, mark, printer, record, tape};
-use crate::line::{SetUpLine, SetUpVerb, Verb};
+use crate::line::{ExcpLine, SetUpLine, SetUpVerb, Verb, front};
 use crate::refusal::Refusal;
 use crate::set_up::SetUp;
 use script_words::Words;
@@ -41,8 +41,9 @@ impl Script {
     ghost use Rattle.job_script.specs.LineViews.{set_up_line_said};
     ghost use Rattle.job_script.specs.Outcomes.{Gives, Leads, LeadsAt, words_in};
     ghost use Rattle.job_script.specs.Lines.{by_verb, set_up_line};
-    ghost use Rattle.job_script.specs.Said.{says_set_up};
+    ghost use Rattle.job_script.specs.Said.{says_excp, says_set_up};
     ghost use Rattle.job_script.specs.Views.{command_said, said};
+    ghost use Rattle.script_words.specs.Text.{bytes_left, leading_line, lines, lines_left};
 
     /// Reads the lines of a script, first to last.
     ///
@@ -61,10 +62,7 @@ impl Script {
         let mut number: usize = 1;
         let mut line = Words::new();
         'lines: while let Some(text) = left {
-            let after = line.scan(text);
-            if let Err(fault) = script.numbered_line(alloc, number, &line) {
-                return Err(fault);
-            }
+            let after = script.numbered_line(alloc, number, text, &mut line)?;
             number += 1;
             left = after;
         }
@@ -81,20 +79,51 @@ impl Script {
         self.set_up.tasks == 0 || self.set_up.units.is_empty()
     }
 
-    /// Adds what the line with this number says, and names the line in a fault.
-    fn numbered_line(
+    /// Adds what the first line of a text says, which has this number, and returns the text after it. Names the line in a
+    /// fault.
+    #[inline(always)]
+    fn numbered_line<'a>(
         &mut self,
         alloc: Global,
         number: usize,
-        line: &Words<'_>,
-    ) -> Result<(), JobError>
-        ensures { LeadsAt number result (said self.new) (script_with_line number line.now.line.now (said self.old)) }
+        text: &'a [u8],
+        line: &mut Words<'a>,
+    ) -> Result<Option<&'a [u8]>, JobError>
+        ensures adds { LeadsAt number result (said self.new) (script_with_line number (leading_line text.now) (said self.old)) }
+        ensures line { IfOk result (λ after. lines text.now ≡ leading_line text.now ∷ lines_left (option_copied after)) }
+        ensures shorter { IfOk result (λ after. bytes_left (option_copied after) ≤ length text.now) }
     {
-        match self.read_line(alloc, number, line) {
-            Ok(()) => Ok(()),
+        match self.leading_line(alloc, number, text, line) {
+            Ok(after) => Ok(after),
             Err(Refusal::Fault(name)) => Err(JobError::Line { line: number, name }),
             Err(Refusal::NoMemory) => Err(JobError::NoMemory),
         }
+    }
+
+    /// Adds what the first line of a text says, which has this number, and returns the text after it.
+    #[inline(always)]
+    fn leading_line<'a>(
+        &mut self,
+        alloc: Global,
+        number: usize,
+        text: &'a [u8],
+        line: &mut Words<'a>,
+    ) -> Result<Option<&'a [u8]>, Refusal>
+        ensures adds { Leads result (said self.new) (script_with_line number (leading_line text.now) (said self.old)) }
+        ensures line { IfOk result (λ after. lines text.now ≡ leading_line text.now ∷ lines_left (option_copied after)) }
+        ensures shorter { IfOk result (λ after. bytes_left (option_copied after) ≤ length text.now) }
+    {
+        if let Some((excp, after)) = front::excp(number, text) {
+            self.add_excp(alloc, excp)?;
+            return Ok(Some(after));
+        }
+        if let Some((fault, after)) = front::fault(text) {
+            self.add_set_up(alloc, fault)?;
+            return Ok(Some(after));
+        }
+        let after = line.scan(text);
+        self.read_line(alloc, number, line)?;
+        Ok(after)
     }
 
     /// Adds what the line with this number says.
@@ -122,10 +151,7 @@ impl Script {
     {
         match verb {
             Verb::SetUp(verb) => self.set_up_line(alloc, number, verb, line),
-            Verb::Excp => {
-                let command = self.set_up.excp(excp(number, line)?)?;
-                self.add_command(alloc, command)
-            }
+            Verb::Excp => self.add_excp(alloc, excp(number, line)?),
             Verb::Purge => self.add_command(alloc, purge(number, line)?),
             Verb::PurgeTask => self.add_command(alloc, purge_task(number, line)?),
             Verb::Close => self.add_command(alloc, close(number, line)?),
@@ -170,6 +196,16 @@ impl Script {
             return Err(Refusal::Fault(FaultName::Order));
         }
         self.set_up.add(alloc, line)
+    }
+
+    /// Adds the command of an EXCP, if all that it names is declared.
+    #[inline(always)]
+    #[tactic(auto, unfolding(crate::specs::Adding::add_line))]
+    fn add_excp(&mut self, alloc: Global, excp: ExcpLine) -> Result<(), Refusal>
+        ensures { Leads result (said self.new) (add_line (says_excp excp) (said self.old)) }
+    {
+        let command = self.set_up.excp(excp)?;
+        self.add_command(alloc, command)
     }
 
     /// Adds a command, if all that it names is declared.

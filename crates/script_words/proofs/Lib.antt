@@ -1,5 +1,6 @@
--- Lemmas on lines, words and forms, and on words compared byte by byte.
+-- Lemmas on lines, words and forms, on words at the front of a text, and on words compared byte by byte.
 pub mod Joining
+pub mod Fronts
 pub mod Numbers
 pub mod Scanning
 pub mod Scans

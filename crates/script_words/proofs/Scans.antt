@@ -13,12 +13,12 @@ use Rattle.script_words.proofs.Scanning.{stops_here}
 use Rattle.script_words.specs.Text.{is_line_feed, is_printable_byte, is_printable, lines, is_space, words}
 use Rattle.script_words.specs.Scan.{Closed, Keeps, Scanned, piece}
 
-words_word : (word tail : List ℕ) → 0 < length word → All (λ b. is_space b ≡ false) word → words (word ++ 32 ∷ tail) ≡ word ∷ words tail
+pub words_word : (word tail : List ℕ) → 0 < length word → All (λ b. is_space b ≡ false) word → words (word ++ 32 ∷ tail) ≡ word ∷ words tail
 unfolding words
 words_word [] tail some all = absurd (omega arith)
 words_word (b ∷ bs) tail some all = rw (slice_split_at is_space (b ∷ bs) 32 tail all refl) refl
 
-words_last : (word : List ℕ) → 0 < length word → All (λ b. is_space b ≡ false) word → words word ≡ word ∷ []
+pub words_last : (word : List ℕ) → 0 < length word → All (λ b. is_space b ≡ false) word → words word ≡ word ∷ []
 unfolding words
 words_last [] some all = absurd (omega arith)
 words_last (b ∷ bs) some all = rw (slice_split_none is_space (b ∷ bs) all) refl

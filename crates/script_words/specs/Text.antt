@@ -1,5 +1,5 @@
 -- A TEXT is lines, and a line is words (profile).
-use Rattle.std.specs.Prelude.{ℕ, ◌+◌, length, Bool, true, false, List, [], ◌∷◌, Option, Some, None, ◌==◌, ◌&&◌, nat_le, filter}
+use Rattle.std.specs.Prelude.{ℕ, ◌+◌, length, Bool, true, false, List, [], ◌∷◌, Option, Some, None, ◌==◌, ◌&&◌, nat_le, filter, get_or}
 use Rattle.std.specs.List.{slice_split, list_all}
 
 -- the byte is a line feed
@@ -13,6 +13,10 @@ is_space byte = byte == 32
 -- the lines of a text: line feeds separate them, so after the last line feed comes one more line
 unfoldable pub lines : List ℕ → List (List ℕ)
 lines text = slice_split is_line_feed text
+
+-- the first line of a text
+abbrev pub leading_line : List ℕ → List ℕ
+leading_line text = get_or (lines text) 0 []
 
 -- the lines of what is left of a text, if anything is left
 abbrev pub lines_left : Option (List ℕ) → List (List ℕ)

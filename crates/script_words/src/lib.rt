@@ -7,6 +7,7 @@
 #![tactic(auto)]
 
 mod forms;
+mod front;
 mod text;
 mod value;
 mod words;
@@ -15,5 +16,6 @@ pub use forms::{
     FormError, byte, bytes_of, decimal, decimal_in, hexadecimal, push_bytes, sixteen_bytes,
     two_bytes,
 };
+pub use front::{after_name, decimal_in_until, decimal_until, hexadecimal_until};
 pub use text::{after_words, is_word, next_word};
 pub use words::Words;

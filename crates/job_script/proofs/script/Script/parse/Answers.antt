@@ -1,6 +1,8 @@
-use Rattle.std.proofs.Common.{◌≡◌, ◌<◌, ◌+◌, length, Some, arith, ◌∙◌, sym, refl}
+use Rattle.std.proofs.Common.{◌≡◌, ◌<◌, ◌+◌, length, drop, Some, arith, ◌∙◌, sym, refl}
 use Rattle.std.specs.Prelude.{option_copied, vec_len}
-use Rattle.script_words.specs.Text.{bytes_left}
+use Rattle.std.proofs.lemmas.Result.{err_from_is_err_and}
+use Rattle.script_words.specs.Text.{bytes_left, leading_line, lines}
+use Rattle.script_words.proofs.Fronts.{has_leading_line}
 use Rattle.job_script.specs.Views.{said}
 use Rattle.job_script.proofs.Parsing.{goes_on, stops, ends}
 use Rattle.job_script.specs.Commands.{NamesUnits}
@@ -21,9 +23,9 @@ lines-preserved c =
     let size : bytes_left (option_copied c.lines.left) ≡ length text + 1 = rw is refl in
     record {
       read = goes_on c.lines.number (said c.lines.script) (said c.numbered_line.new.self) (option_copied c.lines.left)
-          (option_copied c.scan-after.result) text
-          c.scan-after.new.self.line.now _ is c.scan-after.ensures.line c.in_default-numbered_line.ensures c.lines.invariant.read;
-      few = omega (arith, size, c.scan-after.ensures.shorter, c.lines.invariant.few);
+          (option_copied c.in_ok-after.after) text
+          (leading_line text) _ is c.in_ok-after.ensures.line c.in_ok-after.ensures.adds c.lines.invariant.read;
+      few = omega (arith, size, c.in_ok-after.ensures.shorter, c.lines.invariant.few);
     }
 
 pub lines-smaller : goal.lines-smaller
@@ -31,15 +33,16 @@ lines-smaller c =
     let text = c.in-Some.text.now in
     let is : option_copied c.lines.left ≡ Some text = rw c.in-Some.is refl in
     let size : bytes_left (option_copied c.lines.left) ≡ length text + 1 = rw is refl in
-    omega (arith, size, c.scan-after.ensures.shorter)
+    omega (arith, size, c.in_ok-after.ensures.shorter)
 
-pub returns-in-Err-clause-grammar : goal.returns-in-Err-clause-grammar
-returns-in-Err-clause-grammar c =
+pub returns-in_err-after-clause-grammar : goal.returns-in_err-after-clause-grammar
+returns-in_err-after-clause-grammar c =
     let text = c.in-Some.text.now in
     let is : option_copied c.lines.left ≡ Some text = rw c.in-Some.is refl in
-    stops _ c.lines.number (said c.lines.script) (said c.numbered_line.new.self) (option_copied c.lines.left)
-    (option_copied c.scan-after.result) text
-    c.scan-after.new.self.line.now c.args.text.now is c.scan-after.ensures.line c.in-Err.ensures c.lines.invariant.read
+    let back = err_from_is_err_and c.from_residual.result c.from_residual.ensures.1 in
+    rw (back.1, back.2)
+    (stops _ c.lines.number (said c.lines.script) (option_copied c.lines.left) text (leading_line text) (drop 1 (lines text))
+    c.args.text.now is (has_leading_line text) c.in_err-after.ensures.adds c.lines.invariant.read)
 
 pub returns-then-lacks-clause-grammar : goal.returns-then-lacks-clause-grammar
 returns-then-lacks-clause-grammar c =
