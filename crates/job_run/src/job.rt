@@ -103,9 +103,9 @@ impl<'a, 'r, S: Opened<AnyDevice>> Job<'a, 'r, S> {
     }
 
     /// Does the commands of a task, in order, up to the first fault. Whatever other threads do, the task sends the requests
-    /// of its commands, in their order, and no other, and asks of each unit the purges, closes and resets of its commands
-    /// there, in their order, and no other. A command begins after those before it: one that fails leaves what the commands
-    /// before it come to, so a task with a wait has collected a post for each request before that.
+    /// of its commands, and asks of each unit the purges, closes and resets of its commands there. It does both in the order
+    /// of the commands, and nothing else. A command begins once those before it are done. So if one fails, the task has done
+    /// those before it, and has collected a post for each request before their last wait.
     ///
     /// Errors: the first command that fails, as an `excp` after the last number; out of memory.
     pub fn commands<R: Wait, N: Notes>(
