@@ -176,7 +176,7 @@ def rejected_by_run(name, edit, group, case):
     with tempfile.TemporaryDirectory(prefix="mutants-") as room:
         for file in ("crates.txt", "HANDLES"):
             shutil.copy(f"{TOP}/{file}", room)
-        for folder in ("crates", "tools"):
+        for folder in ("crates", "python", "tools"):
             shutil.copytree(f"{TOP}/{folder}", f"{room}/{folder}", ignore=shutil.ignore_patterns("out", "must-fail"))
         # a program that the edit does not concern is not built again
         shutil.copytree(f"{TOP}/out/{way}", f"{room}/out/{way}")
