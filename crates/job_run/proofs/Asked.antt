@@ -120,7 +120,7 @@ some_more : (n : ℕ) (c : Control) (old now : List (List Control)) → n < leng
 some_more n c old now within s =
     let here : n < length now = omega (arith, within, s.some.count) in
     let apart : (unit : ℕ) → unit ≢ n → asked_of (asks true n c now) unit ≡ asked_of now unit =
-    λ unit ne. get_or-set_other now n unit (asked_of now n ++ c ∷ []) [] (λ e. ne (sym e)) in
+    λ unit ne. get_or-set_other now n unit (asked_of now n ++ c ∷ []) [] ne in
     record {
       some = record {
         count = length-set now n (asked_of now n ++ c ∷ []) ∙ s.some.count;
@@ -136,3 +136,8 @@ pub some_and : {A E : Type 0} (n : ℕ) (c : Control) (old now new : List (List 
     AsksSomeFirst n c old now → OnOk here (new ≡ asks true n c now) → OnErr here (new ≡ now) → AsksSomeFirst (n + 1) c old new
 some_and n c old now new (Ok x) within s is unasked = subst (AsksSomeFirst (n + 1) c old) (sym is) (some_more n c old now within s)
 some_and n c old now new (Err e) within s is unasked = subst (AsksSomeFirst (n + 1) c old) (sym unasked) (some_stays n c old now s)
+
+-- what holds in any case holds of an error
+pub of_error : {A E : Type 0} {X : Type 0} (r : Result A E) → X → OnErr r X
+of_error (Ok x) holds = tt
+of_error (Err e) holds = holds

@@ -173,7 +173,7 @@ first-of : (commands : List Command) (old new : TaskState) (fault : TaskError) �
 first-of commands old new fault s = record { before = s.before; others = s.command ∷ s.others; split = s.split; done = s.done }
 
 early-by : (fault : TaskError) (commands : List Command) (old new : TaskState) → StopsAt commands old new fault → EndsEarly commands old new fault
-early-by (errors.Line line name) commands old new s = s
+early-by (errors.Line _ _) commands old new s = s
 early-by errors.NoMemory commands old new s = first-of commands old new errors.NoMemory s
 
 -- a task that has done its commands, or stopped at one of them, and then collects more

@@ -1,11 +1,18 @@
-use Rattle.std.proofs.Common.{◌≡◌, ◌<◌, ◌∙◌, length, ap, arith}
+use Rattle.std.proofs.Common.{◌≡◌, ◌<◌, ◌∙◌, length, refl, ap, arith}
 use Rattle.std.proofs.lemmas.Result.{on_ok_weaker}
 use Rattle.request_piece.specs.declared.scope.Scope.TheVariants.{Task}
 use Rattle.excp_system.specs.declared.control.Control.{Control}
 use Rattle.excp_system.specs.declared.control.Control.TheVariants.{Purge}
 use Rattle.excp_system.specs.States.{TaskState}
-use Rattle.job_run.proofs.Asked.{asks_first, first_all, first_and, some_and, some_none}
+use Rattle.job_run.proofs.Asked.{asks_first, first_all, first_and, of_error, some_and, some_none}
 use Rattle.job_run.proofs.unit_calls.purge_task.Goals as goal
+
+pub loop-unit-init : goal.loop-unit-init
+loop-unit-init g c = record {
+  others = refl;
+  some = some_none (Purge (Task c.args.task) c.args.mode) c.args.client.now.asked;
+  asked = refl;
+}
 
 pub loop-unit-preserved : goal.loop-unit-preserved
 loop-unit-preserved g c =
@@ -33,4 +40,4 @@ returns-clause-asked g c =
     c.loop-unit.invariant.asked
 
 pub returns-clause-unasked : goal.returns-clause-unasked
-returns-clause-unasked g c = on_err c.loop-unit.purged c.loop-unit.invariant.some.some
+returns-clause-unasked g c = of_error c.loop-unit.purged c.loop-unit.invariant.some.some
