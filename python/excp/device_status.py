@@ -48,7 +48,7 @@ SENSE_BITS: Mapping[int, str] = {
 
 def names_of(bits: int, names: Mapping[int, str]) -> List[str]:
     """The names of the bits that are on."""
-    return [name for bit, name in names.items() if bits & bit]
+    return [name for bit, name in names.items() if bits & bit] if bits else []
 
 
 def with_names(bits: int, names: Mapping[int, str]) -> str:

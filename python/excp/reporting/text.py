@@ -50,6 +50,6 @@ def _history_lines(
             continue
         event = members(line)
         yield event_line(number, event, look)
-        if what == "ran":
+        if what == "ran" and record.what == "step":
             area = look.area(event["task"], number, event["request"])
             yield from steps.lines(device, record.all_of("step"), area)
