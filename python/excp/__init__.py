@@ -17,8 +17,9 @@ if TYPE_CHECKING:
     from .blocks import Ccw, Code, Csw, Extent, Flag, Iob, Op, Seek
     from .channels import Channel, ChannelRun, ChannelStatus
     from .errors import (
-        BadImage, BadMedium, BadNumber, BadRequest, ExcpError, Full, InError, LibraryNotFound,
-        NoDcb, NoImage, NoMemory, NoNumber, NoPost, NoSite, NotIdle, Status,
+        BadExtent, BadImage, BadMedium, BadNumber, BadRequest, ExcpError, Full, InError,
+        LibraryNotFound, NoDcb, NoImage, NoMemory, NoNumber, NoPost, NoSite, NothingThere, NotIdle,
+        Status,
     )
     from .judging import LoggedEvent, Verdict, judge
     from .library import is_proved, message, version
@@ -38,8 +39,8 @@ _NAMES = {
     "area": "Area",
     "blocks": "Ccw Code Csw Extent Flag Iob Op Seek",
     "channels": "Channel ChannelRun ChannelStatus",
-    "errors": "BadImage BadMedium BadNumber BadRequest ExcpError Full InError LibraryNotFound "
-    "NoDcb NoImage NoMemory NoNumber NoPost NoSite NotIdle Status",
+    "errors": "BadExtent BadImage BadMedium BadNumber BadRequest ExcpError Full InError "
+    "LibraryNotFound NoDcb NoImage NoMemory NoNumber NoPost NoSite NothingThere NotIdle Status",
     "judging": "LoggedEvent Verdict judge",
     "library": "is_proved message version",
     "posts": "Change Post",
@@ -52,13 +53,13 @@ _NAMES = {
 _MODULES = {name: module for module, names in _NAMES.items() for name in names.split()}
 
 __all__ = [
-    "TAPE_MARK", "Active", "ActiveRequest", "Answer", "Area", "BadImage", "BadMedium", "BadNumber",
-    "BadRequest", "Ccw", "Change", "Channel", "ChannelRun", "ChannelStatus", "Code", "Csw", "Dcb",
-    "DcbPhase", "DcbState", "Device", "Entry", "EntryKind", "ExcpError", "Extent", "Fault", "Flag",
-    "Full", "InError", "Iob", "Kind", "LibraryNotFound", "Line", "LoggedEvent", "Method", "Mode",
-    "Name", "NoDcb", "NoImage", "NoMemory", "NoNumber", "NoPost", "NoSite", "NotIdle", "Op",
-    "Place", "Post", "Record", "Seek", "Served", "ServedEnd", "Site", "Status", "Unit", "UnitState",
-    "Verdict", "is_proved", "judge", "message", "version",
+    "TAPE_MARK", "Active", "ActiveRequest", "Answer", "Area", "BadExtent", "BadImage", "BadMedium",
+    "BadNumber", "BadRequest", "Ccw", "Change", "Channel", "ChannelRun", "ChannelStatus", "Code",
+    "Csw", "Dcb", "DcbPhase", "DcbState", "Device", "Entry", "EntryKind", "ExcpError", "Extent",
+    "Fault", "Flag", "Full", "InError", "Iob", "Kind", "LibraryNotFound", "Line", "LoggedEvent",
+    "Method", "Mode", "Name", "NoDcb", "NoImage", "NoMemory", "NoNumber", "NoPost", "NoSite",
+    "NothingThere", "NotIdle", "Op", "Place", "Post", "Record", "Seek", "Served", "ServedEnd",
+    "Site", "Status", "Unit", "UnitState", "Verdict", "is_proved", "judge", "message", "version",
 ]
 
 

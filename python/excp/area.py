@@ -96,7 +96,8 @@ class Area:
         return dict(self._labels)
 
     def __getitem__(self, label: str) -> int:
-        return self._labels[label]
+        """The address of a label. Raises ValueError if it is not laid out."""
+        return self._resolved(label)
 
     def __repr__(self) -> str:
         """The labels and the first bytes. A piece whose labels are not laid out shows as zeros."""

@@ -57,7 +57,7 @@ class Ccw:
     def to_bytes(self, labels: Optional[Mapping[str, int]] = None) -> bytes:
         """The 8 bytes. `labels` has the address of a label."""
         word = _word(self.command, self.address, labels)
-        return struct.pack(">IBxH", word, self.flags, self.count)
+        return _packed(self, ">IBxH", word, self.flags, self.count)
 
     @staticmethod
     def from_bytes(image: bytes) -> Ccw:
@@ -80,7 +80,7 @@ class Csw:
     residual: int = 0
 
     def to_bytes(self) -> bytes:
-        return struct.pack(">IBBH", self.address, self.unit, self.sub, self.residual)[1:]
+        return _packed(self, ">IBBH", self.address, self.unit, self.sub, self.residual)[1:]
 
     @staticmethod
     def from_bytes(image: bytes) -> Csw:
@@ -110,7 +110,8 @@ class Seek:
     record: int = 0
 
     def to_bytes(self) -> bytes:
-        return struct.pack(">BHHHB", self.extent, self.bin, self.cylinder, self.head, self.record)
+        place = self.extent, self.bin, self.cylinder, self.head, self.record
+        return _packed(self, ">BHHHB", *place)
 
     @staticmethod
     def from_bytes(image: bytes) -> Seek:
@@ -138,8 +139,8 @@ class Iob:
     def to_bytes(self, labels: Optional[Mapping[str, int]] = None) -> bytes:
         """The 40 bytes. `labels` has the addresses of labels."""
         dcb, ecb = self.dcb.__index__(), _word(self.completion, self.ecb, labels)
-        head = struct.pack(">BxHI", self.flags, self.sense, ecb)
-        pointers = struct.pack(">II8x", _word(0, self.start, labels), dcb)
+        head = _packed(self, ">BxHI", self.flags, self.sense, ecb)
+        pointers = _packed(self, ">II8x", _word(0, self.start, labels), dcb)
         return head + b"\0" + self.csw.to_bytes() + pointers + self.seek.to_bytes()
 
     @staticmethod
@@ -179,7 +180,7 @@ class Extent:
     def to_bytes(self) -> bytes:
         ends = self.start_cylinder, self.start_head, self.end_cylinder, self.end_head
         word = _word(self.file_mask, self.unit_block)
-        return struct.pack(">IHHHHHH", word, self.bin, *ends, self.tracks)
+        return _packed(self, ">IHHHHHH", word, self.bin, *ends, self.tracks)
 
     @staticmethod
     def from_bytes(image: bytes) -> Extent:
@@ -191,6 +192,14 @@ class Extent:
         ends = f"{self.start_cylinder}, {self.start_head}, {self.end_cylinder}, {self.end_head}"
         rest = f"unit_block={_shown(self.unit_block)}, bin={self.bin}"
         return f"Extent({ends}, {self.tracks}, file_mask=0x{self.file_mask:02X}, {rest})"
+
+
+def _packed(block: object, form: str, *numbers: int) -> bytes:
+    """The numbers of a block in the form of its fields."""
+    try:
+        return struct.pack(form, *numbers)
+    except struct.error:
+        raise ValueError(f"{block!r}: a number does not fit its field") from None
 
 
 def _shown(address: Address) -> str:

@@ -73,8 +73,13 @@ class BadRequest(ExcpError, ValueError):
     wrong: of its place, its IOB, its ECB, its channel program or its DCB pointer."""
 
 
+class BadExtent(ExcpError, ValueError):
+    """An extent is not one of the device. The message says which."""
+
+
 class BadMedium(ExcpError, ValueError):
-    """What was given is no medium. The message says which size, record, block or fault."""
+    """What was given is no medium. The message says which size, record, block or fault. Or a call
+    is not for the device of the unit, which the message names."""
 
 
 class BadImage(BadMedium):
@@ -103,6 +108,10 @@ class NoPost(ExcpError, LookupError):
     """No post was delivered to the task that it has not collected."""
 
 
+class NothingThere(ExcpError, LookupError):
+    """There is no such track or channel. The message says which."""
+
+
 class NotIdle(ExcpError):
     """The unit is not idle, so no checkpoint."""
 
@@ -124,6 +133,7 @@ _CLASSES = {
     Status.BAD_MEDIUM: BadMedium,
     Status.BAD_IMAGE: BadImage,
     Status.NO_IMAGE: NoImage,
+    Status.BAD_EXTENT: BadExtent,
     Status.AREA_MISALIGNED: BadRequest,
     Status.AREA_TOO_LONG: BadRequest,
     Status.AREA_PAST_TOP: BadRequest,
@@ -134,6 +144,7 @@ _CLASSES = {
     Status.FULL: Full,
     Status.NO_NUMBER: NoNumber,
     Status.NO_POST: NoPost,
+    Status.NOTHING_THERE: NothingThere,
     Status.NOT_IDLE: NotIdle,
     Status.IN_ERROR: InError,
 }

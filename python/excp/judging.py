@@ -59,7 +59,7 @@ def judge(
     """Plays a log on a fresh site with its units mounted. Returns the first event that is not
     lawful, or whose post differs from the one logged; or None. Posts are judged if they are given,
     in any order; a second one of a request is a fault. Each is collected when it is delivered, so
-    no post row fills. Raises KeyError for another word, and ValueError for an unknown label."""
+    no post row fills. Raises ValueError for another word, or an unknown label."""
     logged = None if posts is None else _by_name(posts)
     place = 0
     for place, event in enumerate(events, 1):
@@ -82,6 +82,8 @@ def _by_name(posts: Iterable[Post]) -> Dict[Name, List[Post]]:
 
 def _played(site: Site, event: LoggedEvent, logged: Optional[Dict[Name, List[Post]]]) -> str:
     """What is wrong with an event, which is played. The post of a delivery is taken out."""
+    if event.word not in EVENTS:
+        raise ValueError(f"there is no event {event.word!r}, but {', '.join(EVENTS)}")
     try:
         answer = EVENTS[event.word](site, event)
     except ExcpError as error:

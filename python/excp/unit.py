@@ -8,7 +8,7 @@ from typing import TYPE_CHECKING, Any, Iterator, List, Optional, Sequence, Tuple
 
 from . import library
 from .blocks import Csw, Extent, code_of
-from .errors import Status
+from .errors import BadMedium, NothingThere, Status
 from .reporting.text import unit_history
 from .values import (
     TAPE_MARK, Active, ActiveRequest, Answer, DcbPhase, DcbState, Device, Entry, EntryKind, Line,
@@ -20,6 +20,9 @@ if TYPE_CHECKING:
 
 # The most commands that `run` and `serve` do, unless said otherwise.
 MOST_COMMANDS = 2**32 - 1
+
+# The devices of the calls that read a medium.
+_READERS = {"read_record": "disk", "read_item": "tape", "printed_line": "printer"}
 
 
 class Unit:
@@ -173,9 +176,10 @@ class Unit:
         return sum(1 for _ in self.entries())
 
     def records(self, cylinder: int, head: int) -> List[Record]:
-        """The records of a track of a disk, in their order. The first is R0."""
+        """The records of a track of a disk, in their order. The first is R0. Raises `NothingThere`
+        if the disk has no such track, and `BadMedium` for another device."""
         found = self._each("read_record", (cylinder, head), library.Record, 255 + 65535)
-        return [
+        records = [
             Record(
                 it.cylinder,
                 it.head,
@@ -185,6 +189,11 @@ class Unit:
             )
             for it, data in found
         ]
+        # a track has R0 at least
+        if not records:
+            text = f"{self!r} has no track at cylinder {cylinder}, head {head}"
+            raise NothingThere(Status.NOTHING_THERE, text)
+        return records
 
     def items(self) -> List[Union[bytes, TapeMark]]:
         """The blocks and tape marks of a tape, from its load point on. Raises `BadMedium` for
@@ -193,7 +202,8 @@ class Unit:
         return [TAPE_MARK if it.is_mark else bytes(data[: it.length]) for it, data in found]
 
     def printed(self) -> List[Line]:
-        """The lines that a printer printed, the oldest first."""
+        """The lines that a printer printed, the oldest first. Raises `BadMedium` for another
+        device."""
         found = self._each("printed_line", (), library.Line, 132)
         return [Line(it.page, it.line, bytes(data[: it.length])) for it, data in found]
 
@@ -206,8 +216,12 @@ class Unit:
         with self._calls.lock:
             for place in itertools.count():
                 given = self.number, *where, place, found, data
-                if not self._calls.finds(name, Status.NOTHING_THERE, *given):
-                    return
+                try:
+                    if not self._calls.finds(name, Status.NOTHING_THERE, *given):
+                        return
+                except BadMedium:
+                    text = f"{self!r} is no {_READERS[name]}"
+                    raise BadMedium(Status.BAD_MEDIUM, text) from None
                 yield found, memoryview(data)
 
     def record(self, most_steps: int = 0) -> str:

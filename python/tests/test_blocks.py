@@ -131,6 +131,12 @@ class Blocks(unittest.TestCase):
             Ccw(Op.RD, "BUFFER").to_bytes()
         with self.assertRaisesRegex(ValueError, "at least one CCW"):
             Area(0x1000).program()
+        with self.assertRaisesRegex(ValueError, "no label 'NOWHERE'"):
+            area["NOWHERE"]
+        for block in Ccw(Op.RD, 0, 0, 65536), Seek(cylinder=-1), Extent.between((1, 0), (0, 0), 2), Csw(residual=65536):
+            with self.assertRaises(ValueError) as raised:
+                block.to_bytes()
+            self.assertEqual(str(raised.exception), f"{block!r}: a number does not fit its field")
 
 
 if __name__ == "__main__":

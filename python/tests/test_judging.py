@@ -180,7 +180,7 @@ class Verdicts(unittest.TestCase):
         self.assertEqual(found, Verdict(3, "take at unit 0: the log has Took 1 0 1, and the supervisor Took 0 0 1"))
 
     def test_of_no_word(self):
-        with self.assertRaises(KeyError):
+        with self.assertRaisesRegex(ValueError, "there is no event .*, but take, start"):
             judged([LoggedEvent("tick", 0)])
 
 

@@ -645,7 +645,7 @@ class Mistakes(unittest.TestCase):
                     (disk, [Extent(0, 0, 0, 0, 2)], "extent 0: it says 2 tracks, and has 1"),
                     (wide, [Extent(1, 0, 0, 0, 2)], "extent 0: its end lies before its start"),
                     (tape, TRACK, "a DCB of a tape or a printer has no extents")):
-                self.rejected(Status.BAD_EXTENT, excp.ExcpError, lambda u=unit, e=extents: u.open(extents=e), reason)
+                self.rejected(Status.BAD_EXTENT, excp.BadExtent, lambda u=unit, e=extents: u.open(extents=e), reason)
             self.assertEqual(disk.open(extents=TRACK).number, 2)
 
     def test_names(self):
@@ -656,7 +656,12 @@ class Mistakes(unittest.TestCase):
             self.rejected(Status.NO_TASK, excp.ExcpError, lambda: site.next_post(1))
             self.rejected(Status.NO_DCB, excp.NoDcb, disk.dcb(2).purge)
             self.rejected(Status.BAD_NUMBER, excp.BadNumber, lambda: disk.run(0))
-            self.rejected(Status.BAD_MEDIUM, excp.BadMedium, disk.printed)
+            self.rejected(Status.BAD_MEDIUM, excp.BadMedium, disk.printed, "<unit 0> is no printer")
+            self.rejected(Status.BAD_MEDIUM, excp.BadMedium, disk.items, "<unit 0> is no tape")
+            self.rejected(Status.BAD_MEDIUM, excp.BadMedium, lambda: site.tape().records(0, 0), "<unit 1> is no disk")
+            for place in (1, 0), (0, 1):
+                reason = "<unit 0> has no track at cylinder {}, head {}".format(*place)
+                self.rejected(Status.NOTHING_THERE, excp.NothingThere, lambda p=place: disk.records(*p), reason)
 
     def test_numbers_are_not_cut(self):
         """ctypes would make 0 of 65,536."""
