@@ -85,7 +85,13 @@ post 0 0 4 7F 001048 0C00 0000 0000 CHANGED.
 READ_TAPE = "000B FIRST\n0004 SECOND BLOCK\ncode 41, unit status 0D\n"
 PRINT_LINE = "request 1 of DCB 1 at unit 0: code 7F at 001038\nposts 1, commands 1, ECB 7F\n"
 OUT_OF_MEMORY, FUZZ, LONG_USE = "tests/library/out_of_memory", "tests/library/fuzz", "tests/library/long_use"
-REQUESTS = "tests/library/requests"
+REQUESTS, VOLUME = "tests/library/requests", "tests/library/volume"
+
+# How many cylinders the volume has whose memory is measured: 2.4 MiB, or 203.
+CYLINDERS, CYLINDERS_LONG = "10", "841"
+
+# The most memory of a site, in times of the bytes of its volume: with it mounted, while it is mounted, during a checkpoint.
+MEMORY = 2.2, 2.2, 4.2
 
 # How many times the instructions of the same calls in Rattle, a site cycle of excp_speed, a request from C takes at most.
 MOST_TIMES = 1.25
@@ -388,6 +394,14 @@ def costs_little():
     return text
 
 
+def takes_memory(cylinders):
+    """A volume takes no more memory than docs/CLIENT.md says, after a mount and during a checkpoint."""
+    text = ends_well([compiled("gcc", VOLUME, "measured", "-O2"), cylinders, "1000"])
+    times = [float(it) for it in re.findall(r"\d+\.\d\d(?= times| at the most| during)", text)]
+    require(len(times) == 3 and all(one <= most for one, most in zip(times, MEMORY)), f"{text}; at most {MEMORY} times")
+    return text
+
+
 # --- Python
 
 
@@ -553,6 +567,8 @@ def in_c(setup):
     yield Case("examples/rust/print_line with rustc", runs_in_rust, "docs/SPECIFICATION.md")
     yield Case("examples/c/threads under helgrind", shares_by_its_lock, origin)
     yield Case("the cost of a request", costs_little, "docs/CLIENT.md, What a call costs")
+    judge = lambda: takes_memory(CYLINDERS_LONG if setup.is_long else CYLINDERS)
+    yield Case("the memory of a volume", judge, "docs/CLIENT.md, What a call costs")
     judge = lambda: runs_in_valgrind(FUZZ, "3", str(seconds), seconds=300 + 2 * seconds)
     yield Case(f"{FUZZ} under valgrind", judge, origin)
     for compiler, language in ("gcc", ["c", "-std=c99"]), ("clang", ["c", "-std=c99"]), ("g++", ["c++"]), ("clang++", ["c++"]):
