@@ -6,3 +6,4 @@ pub mod Resting
 pub mod Flagged
 pub mod Standing
 pub mod Serving
+pub mod Places

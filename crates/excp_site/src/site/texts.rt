@@ -137,10 +137,7 @@ fn at(records: Records<'_>, place: usize) -> Option<Stored<'_>>
     ensures { result ≡ slice_get records.entry place }
 {
     let mut rest = records;
-    for _ in 0..place {
-        rest.next()?;
-    }
-    rest.next()
+    rest.nth(place)
 }
 
 /// The item at a place of a tape, if it has one.
@@ -148,10 +145,7 @@ fn item_at(items: Items<'_>, place: usize) -> Option<StoredItem<'_>>
     ensures { result ≡ slice_get items.entry place }
 {
     let mut rest = items;
-    for _ in 0..place {
-        rest.next()?;
-    }
-    rest.next()
+    rest.nth(place)
 }
 
 /// The record of a unit of which the book alone is known.
