@@ -52,6 +52,8 @@ uint32_t excp_call_made_length(SITE, size_t *length);
 uint32_t excp_call_drop_made(SITE);
 uint32_t excp_call_copy_out(SITE, size_t from, ROOM(bytes));
 uint32_t excp_call_channel_new(SITE, uint16_t unit, uint32_t *channel);
+uint32_t excp_call_channel_free(SITE, uint32_t channel);
+uint32_t excp_call_channel_make_image(SITE, uint32_t channel, size_t *length);
 uint32_t excp_call_channel_start(SITE, uint32_t channel, uint32_t start, uint16_t cylinder, uint16_t head, uint8_t file_mask, uint32_t *code);
 uint32_t excp_call_channel_run(SITE, uint32_t channel, uint32_t max_commands, uint32_t base, ROOM(storage), excp_channel_ran *ran);
 uint32_t excp_call_channel_test(SITE, uint32_t channel, excp_channel_status *status);
@@ -97,7 +99,7 @@ const char *excp_message(excp_status status)
         [EXCP_NO_NUMBER] = "the task used its last number at the unit",
         [EXCP_NO_POST] = "no post was delivered to the task that it has not collected",
         [EXCP_NO_ROOM] = "the buffer is too short, or so many bytes were not made",
-        [EXCP_NOTHING_THERE] = "no request, entry, record, item or line is at that place, or none is active",
+        [EXCP_NOTHING_THERE] = "no request, entry, record, item, line or channel is at that place, or none is active",
         [EXCP_NOT_IDLE] = "a request is in flight, waits, is active or out, or a post is not collected",
         [EXCP_IN_ERROR] = "a DCB is in error",
     };
@@ -177,6 +179,8 @@ CALL(drop_made, (SITE), site, site)
 CALL(copy_out, (SITE, size_t from, uint8_t *bytes, size_t length), site && IS_SLICE(bytes, length), site, from, BYTES(bytes, length))
 
 CALL(channel_new, (SITE, uint16_t unit, uint32_t *channel), site && channel, site, unit, channel)
+CALL(channel_free, (SITE, uint32_t channel), site, site, channel)
+CALL(channel_make_image, (SITE, uint32_t channel, size_t *length), site && length, site, channel, length)
 CALL(channel_start, (SITE, uint32_t channel, uint32_t start, uint16_t cylinder, uint16_t head, uint8_t file_mask, uint32_t *code),
      site && code, site, channel, start, cylinder, head, file_mask, code)
 CALL(channel_run, (SITE, uint32_t channel, uint32_t max_commands, uint32_t base, uint8_t *storage, size_t length, excp_channel_ran *ran),

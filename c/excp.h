@@ -71,7 +71,7 @@ typedef enum excp_status {
     EXCP_NO_NUMBER = 24,     /* the task used its last number at the unit, 4,294,967,295: checkpoint the unit */
     EXCP_NO_POST = 25,       /* no post was delivered to the task that it has not collected */
     EXCP_NO_ROOM = 26,       /* the caller's buffer is too short; excp_copy_out: it is too long */
-    EXCP_NOTHING_THERE = 27, /* no request, entry, record, item or line is at that place, or no request is active */
+    EXCP_NOTHING_THERE = 27, /* no request, entry, record, item, line or channel is at that place, or no request is active */
     EXCP_NOT_IDLE = 28,      /* excp_checkpoint: a request is in flight, waits, is active or out, or a post is not collected */
     EXCP_IN_ERROR = 29       /* excp_checkpoint: an open DCB is in error */
 } excp_status;
@@ -345,8 +345,8 @@ typedef struct excp_record {
 } excp_record;
 
 /* The record at a place of a track, counted from 0; that at 0 is R0. Its key and its data go to `bytes`, one behind the other, which
- * has room for `room` bytes. EXCP_NO_ROOM: it has more. EXCP_NOTHING_THERE: the track has no such place. EXCP_BAD_MEDIUM: the unit
- * is no disk. */
+ * has room for `room` bytes. EXCP_NO_ROOM: it has more. EXCP_NOTHING_THERE: the track has no such place, or
+ * at place 0 the disk no such track. EXCP_BAD_MEDIUM: the unit is no disk. */
 excp_status excp_read_record(excp_site *site, uint16_t unit, uint16_t cylinder, uint16_t head, uint32_t place, excp_record *record,
                              uint8_t *bytes, size_t room);
 
@@ -392,10 +392,16 @@ excp_status excp_copy_out(excp_site *site, size_t from, uint8_t *bytes, size_t l
 /* ---- The channel alone ------------------------------------------------------------------------------------------------ */
 
 /* For an emulator that has a supervisor of its own: START, TEST and HALT SUBCHANNEL on a copy of the device of a unit, as it is now.
- * Channels count from 0; their devices are apart from the units, and are freed with the site. No call shows where such a device is,
- * or makes an image of its medium: only its programs read it. EXCP_NOTHING_THERE: there is no such channel. Condition codes are those
- * of Principles of Operation, chapter 14. */
+ * Channels count from 0, and no two of a site have one number. Their devices are apart from the units. EXCP_NOTHING_THERE: there is no
+ * such channel. Condition codes are those of Principles of Operation, chapter 14. */
 excp_status excp_channel_new(excp_site *site, uint16_t unit, uint32_t *channel);
+
+/* Frees a channel with its device. Freeing the site frees all that are left. */
+excp_status excp_channel_free(excp_site *site, uint32_t channel);
+
+/* Makes the medium of a channel as an image, as excp_make_image makes that of a unit. What neither wrote is as in the image that the
+ * unit came from. */
+excp_status excp_channel_make_image(excp_site *site, uint32_t channel, size_t *length);
 
 /* START SUBCHANNEL: seeks a disk to this track (EXCP_BAD_NUMBER: it has none, or the address has more than 24 bits), sets its file
  * mask, and starts the program at an address. The supervisor sets the mask 18 for output and 58 for input; with 00 a program may also

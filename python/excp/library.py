@@ -165,6 +165,8 @@ CALLS = {
     "made_length": "ref",
     "copy_out": "size buffer",
     "channel_new": "u16 ref",
+    "channel_free": "u32",
+    "channel_make_image": "u32 ref",
     "channel_start": "u32 u32 u16 u16 u8 ref",
     "channel_run": "u32 u32 u32 buffer ref",
     "channel_test": "u32 ref",

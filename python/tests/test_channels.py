@@ -132,6 +132,34 @@ class Channels(unittest.TestCase):
             with self.assertRaises(excp.BadNumber):
                 channel.start(area, cylinder=cylinder, head=head)
 
+    def test_close(self):
+        """It frees one channel: the others stay as they are, and no new one gets its number."""
+        with Channel(self.disk) as second:
+            self.assertEqual(self.channel.start(read_record(), cylinder=1), 0)
+        third = Channel(self.disk)
+        self.assertEqual([it.number for it in (self.channel, second, third)], [0, 1, 2])
+        self.assertEqual((third.halt(), self.channel.run()), (0, ChannelRun(3, True)))
+        self.assertEqual(self.channel.at("BUFFER", 4), b"DATA")
+
+    def test_image(self):
+        """What a channel wrote is in its image, which is read again, and not in that of its unit. The tape came from an image of
+        one chunk for each item; the block after the one that was written stays away, as after each write to a tape."""
+        chunk = lambda data, before: bytes([len(data), 0, before, 0, 0xA0, 0]) + data
+        image = chunk(b"ONE.", 0) + chunk(b"TWO.", 4) + chunk(b"END.", 4)
+        tape = self.site.tape_from(image)
+        channel = Channel(tape)
+        self.assertEqual(channel.image(), image)
+        area = Area(0x1000)
+        area.program(Ccw(Op.FSB, flags=Flag.CC | Flag.SLI), Ccw(Op.WRT, "DATA", count=4))
+        area.data("DATA", b"NEW.")
+        channel.start(area)
+        self.assertTrue(channel.run().is_pending)
+        self.assertEqual(channel.test().csw, Csw(0x1010, 0x0C, 0x00, 0))
+        self.assertEqual((channel.image(), tape.image()), (chunk(b"ONE.", 0) + chunk(b"NEW.", 4), image))
+        self.assertEqual(self.site.tape_from(channel.image()).items(), [b"ONE.", b"NEW."])
+        with self.assertRaises(excp.NoImage):
+            self.channel.image()
+
     def test_mistakes(self):
         with self.assertRaises(excp.BadNumber):
             self.channel.start(read_record(), cylinder=2)
@@ -139,9 +167,11 @@ class Channels(unittest.TestCase):
             self.channel.start(read_record(), 0x1000000)
         with self.assertRaises(excp.BadNumber):
             self.channel.run(0)
-        self.channel.number = 9
-        for call in self.channel.test, self.channel.halt, self.channel.run:
-            with self.assertRaises(excp.ExcpError) as raised:
+        self.channel.close()
+        self.channel.close()
+        calls = self.channel.test, self.channel.halt, self.channel.run, self.channel.image, lambda: self.channel.start(read_record())
+        for call in calls:
+            with self.assertRaisesRegex(excp.NothingThere, "^<Channel 0> is closed$") as raised:
                 call()
             self.assertEqual(raised.exception.status, Status.NOTHING_THERE)
         self.assertEqual(self.disk.open(extents=[Extent.between((0, 0), (1, 0), 1)]).number, 1)

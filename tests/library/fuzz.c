@@ -242,7 +242,7 @@ static excp_status use_channel(excp_site *site, written *to)
     uint32_t channel = number(3), base = rarely() ? number(0x2000) : 0x1000;
     block storage = storage_of(base, 1);
     excp_status status;
-    switch (chance(5)) {
+    switch (chance(6)) {
     case 0: status = excp_channel_new(site, (uint16_t)number(4), pointer(&to->code)); break;
     case 1:
         status = excp_channel_start(site, channel, 0x1000 + 8 * number(10), (uint16_t)number(2), (uint16_t)number(2),
@@ -253,6 +253,9 @@ static excp_status use_channel(excp_site *site, written *to)
                                   storage.length, pointer(&to->ran));
         break;
     case 3: status = excp_channel_test(site, channel, pointer(&to->status)); break;
+    case 4:
+        status = rarely() ? excp_channel_free(site, channel) : excp_channel_make_image(site, channel, pointer(&to->length));
+        break;
     default: status = excp_channel_halt(site, channel, pointer(&to->code));
     }
     free(storage.bytes);

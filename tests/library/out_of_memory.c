@@ -87,6 +87,8 @@ typedef struct {
     uint16_t short_number;
     uint64_t number;
     size_t length;
+    uint32_t code;
+    excp_channel_ran ran;
     excp_answer answer;
     excp_served served;
     excp_post post;
@@ -116,6 +118,21 @@ static excp_status issue(excp_site *site, uint16_t task, uint16_t unit, uint8_t 
     uint8_t storage[LENGTH];
     put_request(storage, unit, dcb, is_related);
     return excp_issue(site, task, unit, dcb, BASE, BASE, storage, LENGTH, &to->number);
+}
+
+/* Runs channel 0 on the storage of a request of a tape, which stays as it is if the call fails. */
+static int run_channel(excp_site *site, written *to)
+{
+    uint8_t before[LENGTH], storage[LENGTH];
+    int status;
+    put_request(before, 1, 1, 0);
+    memcpy(storage, before, LENGTH);
+    status = excp_channel_run(site, 0, 10, BASE, storage, LENGTH, &to->ran);
+    if (status == EXCP_OK)
+        memcpy(to->storage, storage, LENGTH);
+    else if (memcmp(before, storage, LENGTH) != 0)
+        return EXCP_BAD_PROGRAM;
+    return status;
 }
 
 enum { CHANGES_NOTHING, SERVES };
@@ -198,13 +215,18 @@ static int call(excp_site *site, int number, written *to, int *kind)
     case 59: return excp_make_image(site, 4, &to->length);
     case 60: return excp_open(site, 0, EXCP_OUTPUT, NULL, 0, &to->short_number);
     case 61: return excp_issue(site, 0, 0, 1, BASE + 2, BASE, block, 4, &to->number);
+    case 62: return excp_channel_new(site, 1, &to->code);
+    case 63: return excp_channel_start(site, 0, BASE + 0x30, 0, 0, 0, &to->code);
+    case 64: return run_channel(site, to);
+    case 65: return excp_channel_make_image(site, 0, &to->length);
+    case 66: return excp_channel_free(site, 0);
     default: return EXCP_BAD_NUMBER;
     }
 }
 
 /* --- the test */
 
-enum { CALLS = 62 };
+enum { CALLS = 67 };
 
 /* How an attempt ended: the call succeeded, it ran out of memory and left all as it was, or something is wrong. */
 enum { DONE, REFUSED, WRONG };

@@ -1,6 +1,7 @@
 pub mod Answers
 pub mod Buffers
 pub mod Calls
+pub mod Channels
 pub mod Contents
 pub mod Done
 pub mod Entries

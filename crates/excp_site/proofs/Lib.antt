@@ -6,4 +6,6 @@ pub mod Resting
 pub mod Flagged
 pub mod Standing
 pub mod Serving
+pub mod Back
+pub mod Channels
 pub mod Places

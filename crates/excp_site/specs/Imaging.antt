@@ -10,8 +10,10 @@ use Rattle.tape_unit.specs.Recording.{is_recordable}
 use Rattle.aws_tape.specs.Reading.{IsOfImage, read_image}
 use Rattle.aws_tape.specs.declared.fault.AwsError.{AwsError}
 use Rattle.aws_tape.specs.declared.image.Image.{Image as TapeImage}
+use Rattle.any_device.specs.declared.device.AnyDevice.{AnyDevice}
 use Rattle.any_device.specs.declared.device.AnyDevice.TheVariants as device
 use Rattle.medium_image.specs.Saving.{IsNoModel, IsSameImage, KeepsItems, LoadsAgain, SavesMedium}
+use Rattle.medium_image.specs.declared.image.Kept.{Kept}
 use Rattle.medium_image.specs.declared.image.Kept.TheVariants as kept
 use Rattle.unit_world.specs.Sites.{OnPart}
 use Rattle.excp_site.specs.Looks.{device_now}
@@ -84,20 +86,33 @@ AwsRefused s bytes size in_flight held BadImage = CanLoad s in_flight held × (i
 AwsRefused s bytes size in_flight held NoMemory = CanLoad s in_flight held × (is_recordable size ≡ true)
 AwsRefused s bytes size in_flight held e = AddRefused s in_flight held e
 
--- THE MEDIUM OF A UNIT IS MADE as an image, or the paper of a printer as text; what was made of a tape loads again, and one that was
--- not written is as the image that it came from
+-- AN IMAGE OF A MEDIUM as it is now: what was made of a tape loads again, and a medium that was not written has the image that it came
+-- from
+pub record IsImageOf (beside : Option Kept) (mounted now : AnyDevice) (made : List ℕ) : Type 0 where
+  pub saved : SavesMedium (Some []) (Some made) beside mounted now
+  pub read_back : LoadsAgain beside mounted now
+  pub same : (image : List ℕ) → IsSameImage beside mounted now image → made ≡ image
+  pub untouched : KeepsItems beside mounted now
+
+-- THE MEDIUM OF A UNIT IS MADE as an image, or the paper of a printer as text
 pub record MakesImage (old : SiteView) (unit : ℕ) (new : SiteView) : Type 0 where
   pub there : unit < length old.plain.units
-  pub saved : OnPart old.plain unit (λ p. SavesMedium (Some []) (Some new.made) (beside_of old unit) p.book.mounted (device_now p.book))
-  pub read_back : OnPart old.plain unit (λ p. LoadsAgain (beside_of old unit) p.book.mounted (device_now p.book))
-  pub same : OnPart old.plain unit (λ p. (image : List ℕ) →
-      IsSameImage (beside_of old unit) p.book.mounted (device_now p.book) image → new.made ≡ image)
-  pub untouched : OnPart old.plain unit (λ p. KeepsItems (beside_of old unit) p.book.mounted (device_now p.book))
+  pub image : OnPart old.plain unit (λ p. IsImageOf (beside_of old unit) p.book.mounted (device_now p.book) new.made)
   pub rest : new ≡ record old { made = new.made }
 
--- WHY IT IS NOT: no model of a disk is as this one, which came from no image
+-- no model of a disk is as this one, which came from no image
+abbrev pub HasNoModel : Option Kept → AnyDevice → Type 0
+HasNoModel beside now = (heads : ℕ) × (track_bytes : ℕ) × IsNoModel beside now heads track_bytes
+
+-- WHY THERE IS NO IMAGE of a medium
+abbrev pub NotImageOf : Option Kept → AnyDevice → Refusal → Type 0
+NotImageOf beside now NoImage = HasNoModel beside now
+NotImageOf beside now NoMemory = Unit {0}
+NotImageOf beside now _ = ⊥
+
+-- and of a unit
 abbrev pub ImageRefused : SiteView → ℕ → Refusal → Type 0
 ImageRefused s unit NoUnit = length s.plain.units ≤ unit
-ImageRefused s unit NoImage = HasPart s.plain unit (λ p. (heads : ℕ) × (track_bytes : ℕ) × IsNoModel (beside_of s unit) (device_now p.book) heads track_bytes)
+ImageRefused s unit NoImage = HasPart s.plain unit (λ p. HasNoModel (beside_of s unit) (device_now p.book))
 ImageRefused s unit NoMemory = unit < length s.plain.units
 ImageRefused s unit _ = ⊥

@@ -12,14 +12,15 @@ use Rattle.unit_book.specs.Book.{opening}
 use Rattle.unit_world.specs.Parts.{UnitPart, PartAccepts, next_name_of, opening_part}
 use Rattle.unit_world.specs.Sites.{SiteState, OnPart, OnUnit}
 use Rattle.excp_site.specs.Media.{IsEmpty}
+use Rattle.excp_site.specs.declared.channel.OwnChannel.{OwnChannel}
 use Rattle.excp_site.specs.declared.medium.Medium.{Medium}
 use Rattle.excp_site.specs.declared.refusal.Refusal.{Refusal}
 use Rattle.excp_site.specs.declared.refusal.Refusal.TheVariants.{NoMemory, BadNumber, NoUnit, NoTask, AreaMisaligned, AreaTooLong}
 use Rattle.excp_site.specs.declared.refusal.Refusal.TheVariants.{AreaPastTop, BadIob, BadEcb, BadProgram, WrongDcb, Full, NoNumber}
 
 -- the units and tasks; what the medium of the next unit has; how many requests of each task each unit had before its last
--- checkpoint; how many requests the book of each unit holds; what the image that a unit came from has beside its medium; and the
--- bytes that were made last
+-- checkpoint; how many requests the book of each unit holds; what the image that a unit came from has beside its medium; the bytes
+-- that were made last; and the channels alone, those that were freed as None
 pub record SiteView : Type 0 where
   pub plain : SiteState AnyDevice
   pub medium : Medium
@@ -27,6 +28,7 @@ pub record SiteView : Type 0 where
   pub held : List ℕ
   pub beside : List (Option Kept)
   pub made : List ℕ
+  pub channels : List (Option OwnChannel)
 
 -- how many requests a task issued to a unit before its last checkpoint
 abbrev pub earlier_of : SiteView → ℕ → ℕ → ℕ
@@ -61,6 +63,7 @@ pub record MakesSite (tasks post_room : ℕ) (s : SiteView) : Type 0 where
   pub held : s.held ≡ []
   pub beside : s.beside ≡ []
   pub made : s.made ≡ []
+  pub channels : s.channels ≡ []
 
 -- how many requests may be in flight to a unit, and how many its book holds
 abbrev pub is_room : ℕ → ℕ → Bool
@@ -78,6 +81,7 @@ pub record AddsUnit (old : SiteView) (device : AnyDevice) (beside : Option Kept)
   pub held_is : new.held ≡ old.held ++ held ∷ []
   pub beside_is : new.beside ≡ old.beside ++ beside ∷ []
   pub made : new.made ≡ old.made
+  pub channels : new.channels ≡ old.channels
 
 -- A REQUEST IS ISSUED: it is the next of its task at the unit, on this storage, and in flight
 pub record IssuesRequest (old : SiteState AnyDevice) (task unit dcb iob : ℕ) (area : Storage) (name : Name) (new : SiteState AnyDevice) : Type 0 where

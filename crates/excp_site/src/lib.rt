@@ -8,6 +8,7 @@
 //! Tests: tests/groups/library_clients.py, tests/mutants/excp_site.
 #![tactic(auto)]
 
+mod channel;
 mod deb;
 mod medium;
 mod reason;
@@ -16,10 +17,11 @@ mod served;
 mod site;
 mod state;
 
+pub use channel::{ChannelRun, OwnChannel};
 pub use deb::extents;
 pub use medium::Medium;
 pub use reason::Reason;
 pub use refusal::Refusal;
 pub use served::{Served, ServedEnd};
-pub use site::{ChannelRun, Room, Site};
+pub use site::{Room, Site};
 pub use state::{ActiveLook, DcbLook, Place, UnitState};

@@ -16,16 +16,15 @@ ghost use Rattle.std.specs.Prelude.{◌≡◌, ◌≤◌, ◌<◌, [], length, r
 ghost use Rattle.excp_site.specs.declared.refusal.Refusal.TheVariants as Refusal;
 ghost use Rattle.excp_site.specs.Sites.{MakesSite, NewRefused, earlier_of, number_of};
 
+use crate::channel::OwnChannel;
 use crate::medium::Medium;
 use crate::refusal::Refusal;
 use any_device::AnyDevice;
-pub use channels::ChannelRun;
 pub use media::Room;
 use medium_image::Kept;
 use request_piece::Name;
 use std::alloc::Global;
 use std::marker::Model;
-use subchannel::Subchannel;
 use unit_world::PlainSite;
 
 /// The most units of a site, so that each has a number of 16 bits.
@@ -45,17 +44,25 @@ pub struct Site {
     beside: Vec<Option<Kept>>,
     /// The bytes that were made last.
     made: Vec<u8>,
-    /// Subchannels with devices of their own. Contracts do not see them.
-    channels: Vec<Subchannel<AnyDevice>>,
+    /// The channels alone, by their numbers. One that was freed leaves its place empty.
+    channels: Vec<Option<Box<OwnChannel>>>,
 }
 
 impl Model for Site {
-    ghost use Rattle.std.specs.Prelude.{◌≡◌, ◌≤◌, All, length, map};
+    ghost use Rattle.std.specs.Prelude.{◌≡◌, ◌≤◌, All, length, map, option_map};
     ghost use Rattle.excp_site.specs.Sites.{SiteView};
 
     ghost Value = { SiteView };
 
-    ghost view = { λ s. record { plain = s.plain; medium = s.medium; earlier = map (λ e. e.items) s.earlier.items; held = s.held.items; beside = s.beside.items; made = s.made.items } };
+    ghost view = { λ s. record {
+      plain = s.plain;
+      medium = s.medium;
+      earlier = map (λ e. e.items) s.earlier.items;
+      held = s.held.items;
+      beside = s.beside.items;
+      made = s.made.items;
+      channels = map (option_map (λ c. c.value)) s.channels.items;
+    } };
 
     ghost invariant = { λ s. (length s.plain.units ≤ 65_535) × (length s.earlier.items ≡ length s.plain.units)
         × (length s.held.items ≡ length s.plain.units) × (length s.beside.items ≡ length s.plain.units)

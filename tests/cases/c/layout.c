@@ -235,6 +235,7 @@ static void see_channel(excp_site *site)
     GUARDED(excp_channel_status, status);
     uint8_t storage[0x100], before[0x100];
     uint32_t channel = 9, code = 9;
+    size_t length = 0, printed = 0;
     make(storage, 3, 0x01, 0, 140);
     memset(storage + LENGTH, 0, sizeof storage - LENGTH);
     OK(excp_channel_new(site, 2, &channel));
@@ -260,6 +261,14 @@ static void see_channel(excp_site *site)
     EXPECT(excp_channel_run(site, channel, 0, BASE, storage, sizeof storage, &ran.it) == EXCP_BAD_NUMBER);
     EXPECT(excp_channel_run(site, 1, 1, BASE, storage, sizeof storage, &ran.it) == EXCP_NOTHING_THERE);
     EXPECT(memcmp(before, storage, sizeof storage) == 0);
+    OK(excp_make_image(site, 2, &printed));
+    OK(excp_channel_make_image(site, channel, &length));
+    EXPECT(length > printed);
+    OK(excp_channel_free(site, channel));
+    EXPECT(excp_channel_free(site, channel) == EXCP_NOTHING_THERE && excp_channel_halt(site, channel, &code) == EXCP_NOTHING_THERE);
+    EXPECT(excp_channel_make_image(site, channel, &length) == EXCP_NOTHING_THERE);
+    OK(excp_channel_new(site, 2, &channel));
+    EXPECT(channel == 1);
 }
 
 /* The other functions, so that each is linked. */

@@ -128,6 +128,9 @@ static void refuse_null(void)
     NO_POINTER(excp_copy_out(&site, 0, NULL, 16));
     NO_POINTER(excp_channel_new(NULL, 0, &number32));
     NO_POINTER(excp_channel_new(&site, 0, NULL));
+    NO_POINTER(excp_channel_free(NULL, 0));
+    NO_POINTER(excp_channel_make_image(NULL, 0, &length));
+    NO_POINTER(excp_channel_make_image(&site, 0, NULL));
     NO_POINTER(excp_channel_start(NULL, 0, 0, 0, 0, 0, &number32));
     NO_POINTER(excp_channel_start(&site, 0, 0, 0, 0, 0, NULL));
     NO_POINTER(excp_channel_run(NULL, 0, 1, 0, buffer, 16, &ran));
@@ -182,6 +185,8 @@ static void refuse_all(excp_status status)
     GIVES(status, excp_drop_made(&site));
     GIVES(status, excp_copy_out(&site, 0, NULL, 0));
     GIVES(status, excp_channel_new(&site, 0, &number32));
+    GIVES(status, excp_channel_free(&site, 0));
+    GIVES(status, excp_channel_make_image(&site, 0, &length));
     GIVES(status, excp_channel_start(&site, 0, 0, 0, 0, 0, &number32));
     GIVES(status, excp_channel_run(&site, 0, 1, 0, NULL, 0, &ran));
     GIVES(status, excp_channel_test(&site, 0, &channel_status));

@@ -1,13 +1,14 @@
 //! Units from images, and media as images.
 
-ghost use Rattle.std.specs.Prelude.{◌≡◌, ◌⊎◌, length, false, true, option_copied, Ok, IfErr, IfOk, OnErr, OnOk};
+ghost use Rattle.std.specs.Prelude.{◌≡◌, ◌<◌, ◌⊎◌, length, false, true, option_copied, Ok, IfErr, IfOk, OnErr, OnOk};
 ghost use Rattle.std.specs.Bool.{OnTrue};
 ghost use Rattle.ckd_image.specs.Loading.{IsFault};
 ghost use Rattle.aws_tape.specs.Reading.{IsOfImage, read_image};
 ghost use Rattle.tape_unit.specs.Recording.{is_recordable};
-ghost use Rattle.excp_site.specs.Imaging.{AwsRefused, BreaksAws, BreaksCkd, CkdRefused, ImageRefused, IsCkd, LeavesMade, LoadRefused, MakesImage, MountsAws, MountsCkd};
+ghost use Rattle.excp_site.specs.Imaging.{AwsRefused, BreaksAws, BreaksCkd, CkdRefused, ImageRefused, IsCkd, IsImageOf, LeavesMade, LoadRefused, MakesImage, MountsAws, MountsCkd, NotImageOf};
 ghost use Rattle.excp_site.specs.Media.{IsEmpty};
 ghost use Rattle.excp_site.specs.Mounting.{has_no_items, has_no_records};
+ghost use Rattle.unit_world.specs.Sites.{OnPart};
 ghost use Rattle.excp_site.specs.Sites.{beside_of};
 ghost use Rattle.excp_site.specs.declared.refusal.Refusal.TheVariants as Refusal;
 
@@ -79,23 +80,28 @@ impl Site {
         ensures err { OnErr result (self.new ≡ self.old) }
     {
         self.has_unit(unit)?;
-        let book = self.plain.book(unit);
-        let mut bytes = Vec::new(self.alloc);
-        match save(
-            self.alloc,
-            &mut bytes,
-            self.beside_of(unit),
-            book.mounted(),
-            book.device(),
-        ) {
-            Ok(()) => {}
-            Err(SaveError::NoModel { .. }) => return Err(Refusal::NoImage),
-            // a write to memory fails only if memory runs out
-            Err(SaveError::NotWritten(_) | SaveError::NoMemory) => return Err(Refusal::NoMemory),
-        }
-        let len = bytes.len();
-        self.made = bytes;
+        let made = self.image_of(unit, self.plain.book(unit).device())?;
+        let len = made.len();
+        self.made = made;
         Ok(len)
+    }
+
+    /// The image of a medium, which is that of a unit, or of a channel with a copy of its device.
+    ///
+    /// Errors: `NoImage`, `NoMemory`.
+    pub(super) fn image_of(&self, unit: u16, now: &AnyDevice) -> Result<Vec<u8>, Refusal>
+        requires unit { unit < length self.now.plain.units }
+        ensures ok { IfOk result (λ made. OnPart self.now.plain unit (λ p. IsImageOf (beside_of self.now unit) p.book.mounted now.now made.items)) }
+        ensures refused { IfErr result (NotImageOf (beside_of self.now unit) now.now) }
+    {
+        let mounted = self.plain.book(unit).mounted();
+        let mut bytes = Vec::new(self.alloc);
+        match save(self.alloc, &mut bytes, self.beside_of(unit), mounted, now) {
+            Ok(()) => Ok(bytes),
+            Err(SaveError::NoModel { .. }) => Err(Refusal::NoImage),
+            // a write to memory fails only if memory runs out
+            Err(SaveError::NotWritten(_) | SaveError::NoMemory) => Err(Refusal::NoMemory),
+        }
     }
 
     /// How many bytes were made last.

@@ -4,6 +4,7 @@ use Rattle.std.proofs.lemmas.List.Elements.{All-push}
 use Rattle.any_device.specs.declared.device.AnyDevice.{AnyDevice}
 use Rattle.unit_world.specs.Sites.{SiteState}
 use Rattle.excp_site.specs.Sites.{SiteView}
+use Rattle.excp_site.specs.contracts.site.Site.{the_view}
 use Rattle.excp_site.proofs.Refused.{errs, same-lists}
 use Rattle.excp_site.proofs.site.Site.add.Goals as goal
 
@@ -34,14 +35,14 @@ invariant_of-self-in-Ok-add_unit c =
 pub returns-in_err-reserve-2-clause-err : goal.returns-in_err-reserve-2-clause-err
 returns-in_err-reserve-2-clause-err c =
     let i = c.self.inside in
-    let now : SiteView = record { plain = i.plain; medium = i.medium; earlier = map (λ e. e.items) i.earlier.items; held = i.held.items; beside = i.beside.items; made = i.made.items } in
+    let now : SiteView = the_view i in
     errs c.from_residual-in_err-reserve-2.result _
     (same-lists now _ _ _ (ap (map (λ e. e.items)) c.reserve.ensures.items) c.reserve-2.ensures.items refl ∙ c.self.view_is)
 
 pub returns-in_err-reserve-3-clause-err : goal.returns-in_err-reserve-3-clause-err
 returns-in_err-reserve-3-clause-err c =
     let i = c.self.inside in
-    let now : SiteView = record { plain = i.plain; medium = i.medium; earlier = map (λ e. e.items) i.earlier.items; held = i.held.items; beside = i.beside.items; made = i.made.items } in
+    let now : SiteView = the_view i in
     errs c.from_residual-in_err-reserve-3.result _
     (same-lists now _ _ _ (ap (map (λ e. e.items)) c.reserve.ensures.items) c.reserve-2.ensures.items c.reserve-3.ensures.items
     ∙ c.self.view_is)

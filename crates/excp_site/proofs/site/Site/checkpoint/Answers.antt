@@ -11,6 +11,7 @@ use Rattle.unit_world.specs.Sites.{IsAtRest, OnPart, SiteState}
 use Rattle.excp_site.specs.Checkpoints.{CheckpointRefused, Checkpoints, BesideAfter, IsFlagged, IsRenewed, counts_after}
 use Rattle.excp_site.specs.Looks.{device_now}
 use Rattle.excp_site.specs.Sites.{SiteView, beside_of, held_of}
+use Rattle.excp_site.specs.contracts.site.Site.{the_view}
 use Rattle.excp_site.specs.declared.refusal.Refusal.TheVariants.{NoMemory}
 use Rattle.excp_site.proofs.Refused.{refuses}
 use Rattle.excp_site.proofs.site.Site.checkpoint.Goals as goal
@@ -22,7 +23,7 @@ returns-clause-ok c =
     let pruned = c.forget_written.new.self in
     let i = c.self-2.inside in
     let r = c.renew.ensures in
-    let now : SiteView = record { plain = i.plain; medium = i.medium; earlier = map (λ e. e.items) i.earlier.items; held = i.held.items; beside = i.beside.items; made = i.made.items } in
+    let now : SiteView = the_view i in
     let is : now ≡ record s { beside = pruned.beside } = c.self-2.view_is ∙ c.forget_written.ensures.rest in
     let old : SiteView = record now { beside = s.beside } in
     let same : old ≡ s = ap (λ (v : SiteView). record v { beside = s.beside }) is in
