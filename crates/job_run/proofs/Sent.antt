@@ -1,5 +1,5 @@
 -- What a task has done, from one command to the next, and when it stops or ends early.
-use Rattle.std.proofs.Common.{◌≡◌, ◌≤◌, ◌==◌, ℕ, Bool, true, false, if◌then◌else◌, Result, Ok, Err, IfErr, OnOk, List, [], ◌∷◌, ◌++◌, length, inl}
+use Rattle.std.proofs.Common.{◌≡◌, ◌≤◌, ◌==◌, ℕ, Bool, true, false, if◌then◌else◌, Result, Ok, Err, IfErr, OnOk, List, [], ◌∷◌, ◌++◌, length, inl, inr}
 use Rattle.std.proofs.Common.{refl, sym, subst, ap, ◌∙◌, arith, append-nil, drop}
 use Rattle.std.specs.Result.{IsErrAnd}
 use Rattle.excp_system.specs.States.{TaskState, awaited_count}
@@ -103,7 +103,7 @@ module _ (commands : List Command) (old now new : TaskState) (command : Command)
     own = n.own;
     done = record {
       sent = unsent ∙ d.sent ∙ ap (λ (e : Deeds). e.sent) n.now_is;
-      asked = subst (λ (l : List (List Control)). AsksPart command.action l new.asked) (d.asked ∙ ap (λ (e : Deeds). e.asked) n.now_is) part;
+      asked = inr (n.own, subst (λ (l : List (List Control)). AsksPart command.action l new.asked) (d.asked ∙ ap (λ (e : Deeds). e.asked) n.now_is) part);
       collected = subst (λ (e : Deeds). e.collected ≤ length new.got) n.now_is (omega (arith, d.collected, grows));
     };
     cause = cause;
@@ -124,17 +124,9 @@ done-all commands old now places i number value same past d =
 
 -- ---- the end of a task
 
-part-none : (a : Action) (asked : List (List Control)) → AsksPart a asked asked
-part-none (Excp e) asked = refl
-part-none (Purge dcb mode) asked = refl
-part-none (PurgeTask n mode) asked = record { count = refl; each = λ unit. inl refl }
-part-none (Close dcb) asked = refl
-part-none (Reset dcb) asked = refl
-part-none Wait asked = refl
-
-next-none : (commands : List Command) (asked : List (List Control)) → AsksNext commands asked asked
-next-none [] asked = refl
-next-none (c ∷ others) asked = part-none c.action asked
+next-none : (task : ℕ) (commands : List Command) (asked : List (List Control)) → AsksNext task commands asked asked
+next-none task [] asked = refl
+next-none task (c ∷ others) asked = inl refl
 
 -- a task that does no command
 pub does-none : (commands : List Command) (s : TaskState) → DoesFirst commands s s
@@ -143,7 +135,7 @@ does-none commands s = record {
   before = [];
   others = commands;
   split = refl;
-  done = record { sent = refl; asked = next-none commands s.asked; collected = omega arith };
+  done = record { sent = refl; asked = next-none s.number commands s.asked; collected = omega arith };
 }
 
 -- and one that collects more, after its commands
@@ -151,7 +143,7 @@ still : (commands next : List Command) (old mid new : TaskState) → HasDone com
     length mid.got ≤ length new.got → HasDone commands next old new
 still commands next old mid new d sent asked grows = record {
   sent = sent ∙ d.sent;
-  asked = subst (λ (l : List (List Control)). AsksNext next (deeds commands old).asked l) (sym asked) d.asked;
+  asked = subst (λ (l : List (List Control)). AsksNext old.number next (deeds commands old).asked l) (sym asked) d.asked;
   collected = omega (arith, d.collected, grows);
 }
 

@@ -86,10 +86,10 @@ AsksPart (Close dcb) old new = new ≡ old
 AsksPart (Reset dcb) old new = new ≡ old
 AsksPart Wait old new = new ≡ old
 
--- the first of these commands has asked no more than a part
-abbrev pub AsksNext : List Command → List (List Control) → List (List Control) → Type 0
-AsksNext [] old new = new ≡ old
-AsksNext (c ∷ others) old new = AsksPart c.action old new
+-- the first of these commands has asked nothing, or no more than a part if it is of the task
+abbrev pub AsksNext : ℕ → List Command → List (List Control) → List (List Control) → Type 0
+AsksNext task [] old new = new ≡ old
+AsksNext task (c ∷ others) old new = (new ≡ old) ⊎ ((c.task ≡ task) × AsksPart c.action old new)
 
 -- WHAT A TASK HAS DONE: what it sent to each unit, the controls that it asked of each, and how many posts it has collected at least
 pub record Deeds : Type 0 where
@@ -121,11 +121,11 @@ no_deeds s = record { sent = s.sent; asked = s.asked; collected = 0 }
 abbrev pub deeds : List Command → TaskState → Deeds
 deeds commands s = does_all (adds_deeds s.number) s.number commands (no_deeds s)
 
--- a task has done its commands among these, in order, and no other, but for a part of a purge that comes next: it sent and asked what
--- they say, and has collected a post for each request that came before a wait
+-- a task has done its commands among these, and no other but a part of its own that comes next: it sent and asked each unit what they
+-- say, in their order, and has collected at least as many posts as it had sent requests at its last wait
 pub record HasDone (commands next : List Command) (old new : TaskState) : Type 0 where
   pub sent : new.sent ≡ (deeds commands old).sent
-  pub asked : AsksNext next (deeds commands old).asked new.asked
+  pub asked : AsksNext old.number next (deeds commands old).asked new.asked
   pub collected : (deeds commands old).collected ≤ length new.got
 
 -- a task stops at one of its commands, which fails: it has done the commands before, and the fault names the command's line

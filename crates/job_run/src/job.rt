@@ -102,10 +102,10 @@ impl<'a, 'r, S: Opened<AnyDevice>> Job<'a, 'r, S> {
         done
     }
 
-    /// Does the commands of a task, in order, up to the first fault. Whatever other threads do, the task sends the requests
-    /// of its commands, and asks of each unit the purges, closes and resets of its commands there. It does both in the order
-    /// of the commands, and nothing else. A command begins once those before it are done. So if one fails, the task has done
-    /// those before it, and has collected a post for each request before their last wait.
+    /// Does the commands of a task, in order, up to the first fault. Whatever other threads do, the task sends each unit the
+    /// requests of its commands there, in order, and no other. It asks of each unit their purges, closes and resets, in
+    /// order, and no other. A task that stops at a command has done those before it, and none after it. It has then
+    /// collected at least as many posts as it had sent requests at its last wait.
     ///
     /// Errors: the first command that fails, as an `excp` after the last number; out of memory.
     pub fn commands<R: Wait, N: Notes>(
