@@ -24,6 +24,9 @@ _MISSING = (
 )
 _NOT_PROVED = "the library has not been proved of these sources: tools/library.py proves it"
 
+# The folder of the package.
+_PACKAGE = Path(__file__).resolve().parents[1]
+
 # What else the library is built of, beside crates.
 _IN_C = "excp.c", "excp.h"
 
@@ -34,9 +37,7 @@ def choose_library(home: Home, needs_proof: bool) -> Path:
     if named:
         return Path(named)
     if home.top is None:
-        if not home.is_installed(LIBRARY):
-            raise NotBuilt(_MISSING)
-        return home.programs / LIBRARY
+        return _installed(home)
     file = library_of(home.top)
     is_right = _is_current(home, file)
     if needs_proof and not (is_right and _is_proved(file)):
@@ -44,6 +45,14 @@ def choose_library(home: Home, needs_proof: bool) -> Path:
     if not is_right:
         build(home, "library.py", "--unproved", "--quiet", says=_BUILDS)
     return file
+
+
+def _installed(home: Home) -> Path:
+    """The library beside the programs of an installed command, or in a package of pip."""
+    for folder in home.programs, _PACKAGE:
+        if (folder / LIBRARY).is_file():
+            return folder / LIBRARY
+    raise NotBuilt(_MISSING)
 
 
 def built_library(home: Home, takes_unproved: bool) -> Optional[Path]:
