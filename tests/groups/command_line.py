@@ -347,9 +347,10 @@ def of_file(setup, words, script):
 
 
 def shows_own(setup, words, text):
-    """The program prints a help that has this text on standard output, and reads nothing."""
+    """The program prints a help that has this text on standard output, on whatever lines, and reads nothing."""
     ran, rest = run_on_file(setup, words)
-    require((ran.status, ran.err) == (0, "") and text in ran.out, f"no help with the text: {text}", ran)
+    has_text = text in " ".join(ran.out.split())
+    require((ran.status, ran.err) == (0, "") and has_text, f"no help with the text: {text}", ran)
     require(rest == read(STORED), "it read its input", ran)
 
 
