@@ -114,7 +114,7 @@ RUN = {
      "./excp debug errors <<'END'"): (AMONG, {"errors": "ID:     CCHHR 0,0,9                ; cylinder 0, head 0, record 9"}),
     ("docs/TUTORIAL.md", "./excp step halt"): (NEXT, {"halt": "purge 0 0 1 halt"}),
     ("docs/TUTORIAL.md", "./excp test --accept job"): (SESSION, {"job": "LINE: DC  C'HELLO'"}),
-    ("docs/TUTORIAL.md", "./excp report --posts --seed 12"): (ANYTHING, {}),
+    ("docs/TUTORIAL.md", "./excp report --posts --seed 12"): (NEXT, {}),
     ("docs/TUTORIAL.md", "./excp outcomes samples/outcomes/a-halt.symbolic | grep"): (NEXT, {}),
     ("docs/TUTORIAL.md", "job=samples/outcomes/a-halt.symbolic"): (NEXT, {}),
     ("docs/TUTORIAL.md", "./excp convert --to aws"): (NEXT, {"tape": "block 0 C'BOOK1'", "append": "BLOCK:  DC    C'BOOK3'"}),
