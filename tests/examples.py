@@ -140,14 +140,14 @@ NEEDED = {"parallel": "parallel", "dasdload": "hercules"}
 
 # Blocks of commands that the tests do not run, and why.
 NOT_RUN = {
-    ("docs/CLIENT.md", "cd crates/print_tape && rt run"): "`rt ci` proves the program and runs it",
+    ("docs/CLIENT.md", "cd crates/example_print_tape && rt run"): "`rt ci` proves the program and runs it",
     ("docs/CLIENT.md", "tools/library.py"): "the group library_clients builds and runs the examples",
     ("samples/README.md",
      "./excp step --html samples/scenarios/a-related-error.scenario"): "it needs Chromium; the group pages opens pages",
     ("docs/CLIENT.md", "cc "): "the group c_library builds programs in these ways",
     ("docs/CLIENT.md", "pip install ./python"): "the group library_clients installs the package",
     ("docs/CLIENT.md", "python3 examples/python/test_channel_program.py"): "the group library_clients runs the examples",
-    ("docs/SPEED.md", "cd crates/excp_speed && rt run -- 2000"): "it proves the program and takes minutes",
+    ("docs/SPEED.md", "cd crates/bench_steps && rt run -- 2000"): "it proves the program and takes minutes",
     ("docs/SPEED.md", "valgrind --tool=callgrind"): "it runs that program",
 }
 

@@ -1,4 +1,4 @@
-/* Prints the blocks of a tape on a printer by channel programs, as crates/print_tape does in Rattle.
+/* Prints the blocks of a tape on a printer by channel programs, as crates/example_print_tape does.
  *
  * A buffer is one piece of storage with two requests: one reads a block of the tape, the other prints it. With two buffers the
  * next block is read while one is printed. All requests are related, so the error at the tape mark also ends the read after it. */

@@ -285,7 +285,7 @@ def installs():
 
 def builds_by(folder, number):
     """pkg-config and CMake build copy_tape with the library in own/ of a folder."""
-    due, own = read(f"{TOP}/crates/print_tape/stdout"), {**os.environ, "PKG_CONFIG_PATH": f"{folder}/own/lib/pkgconfig"}
+    due, own = read(f"{TOP}/crates/example_print_tape/stdout"), {**os.environ, "PKG_CONFIG_PATH": f"{folder}/own/lib/pkgconfig"}
     lacks = [it for it in ("pkg-config", "cmake") if not shutil.which(it)]
     if lacks:
         raise Skipped(f"{' and '.join(lacks)} is not installed, so no program is built with the installed library")

@@ -65,7 +65,7 @@ VALGRIND = ["valgrind", "-q", "--soname-synonyms=somalloc=nouserintercepts", "--
 #   CCW address and the residual count of that search: 1038, and 0 of its 5 bytes (5.3). Nothing was read.
 # - Requests 3 and 4 end as 1 does. The image has the header of 512 bytes and the track of 64 (docs/FORMATS.md), so does not grow.
 PRINTS = {
-    "examples/c/copy_tape": read(f"{TOP}/crates/print_tape/stdout"),
+    "examples/c/copy_tape": read(f"{TOP}/crates/example_print_tape/stdout"),
     "examples/c/threads": "task 0: 1000 requests ended\ntask 1: 1000 requests ended\n",
     "examples/c/search_disk": """pending 1 again 1
 post 0 0 1 7F 001048 0C00 0000 0000 FIRST...
@@ -93,7 +93,7 @@ CYLINDERS, CYLINDERS_LONG = "10", "841"
 # The most memory of a site, in times of the bytes of its volume: with it mounted, while it is mounted, during a checkpoint.
 MEMORY = 2.2, 2.2, 4.2
 
-# How many times the instructions of the same calls in Rattle, a site cycle of excp_speed, a request from C takes at most.
+# How many times the instructions of the same calls in Rattle, a site cycle of bench_steps, a request from C takes at most.
 MOST_TIMES = 1.25
 
 
@@ -382,9 +382,9 @@ def instructions(words_for):
 def costs_little():
     """A request from C takes little more than the same calls in Rattle."""
     needs("valgrind", "gcc")
-    speed = f"{TOP}/crates/excp_speed/out/excp_speed"
+    speed = f"{TOP}/crates/bench_steps/out/bench_steps"
     if not os.path.exists(speed):
-        raise Skipped("excp_speed is not built: `rt run` in crates/excp_speed")
+        raise Skipped("bench_steps is not built: `rt run` in crates/bench_steps")
     built = compiled("gcc", REQUESTS, "measured", "-O2")
     book, site = (instructions(lambda count, it=it: [speed, count, f"{it} cycles"]) for it in ("book", "site"))
     events, served = (instructions(lambda count, it=it: [built, it, count]) for it in ("events", "serve"))
@@ -549,7 +549,7 @@ def in_c(setup):
     seconds, uses = (SECONDS_LONG, USES_LONG) if setup.is_long else (SECONDS, USES)
     origin = "c/excp.h"
     for compiler in COMPILERS:
-        yield Case(f"make with {compiler}", lambda c=compiler: is_made(c), "crates/print_tape/stdout and examples/c")
+        yield Case(f"make with {compiler}", lambda c=compiler: is_made(c), "crates/example_print_tape/stdout and examples/c")
         for program in *PRINTS, OUT_OF_MEMORY:
             yield Case(f"{program} with {compiler}", lambda c=compiler, p=program: runs_in_c(c, p), origin)
         yield Case(f"{LONG_USE} with {compiler}", lambda c=compiler: runs_in_c(c, LONG_USE, *uses, seconds=3600), origin)

@@ -304,8 +304,8 @@ def programs(setup):
     words = setup.command("report", "--posts", *loads)
     for kind, judge, least in ("file", saves_one_or_all, 2), ("kill", is_killed_whole, 1):
         yield f"report with images: each {kind}", Plan(words, judge, script, read(text), kind, files=IMAGES, least=least)
-    client = f"{TOP}/crates/print_tape"
-    yield "print_tape", Plan([f"{client}/out/print_tape"], is_program, text=read(f"{client}/stdout"))
+    client = f"{TOP}/crates/example_print_tape"
+    yield "example_print_tape", Plan([f"{client}/out/example_print_tape"], is_program, text=read(f"{client}/stdout"))
 
 
 # How many lines of the package a case of it tries in the gate.
@@ -351,7 +351,7 @@ REFUSES = {"judge": is_purge_test, "passes": True, "least": 3}
 RUNS_WITHOUT = {"judge": is_mounted_test, "kind": "lasting"}
 TESTS = [
     (
-        "component_tests",
+        "test_system",
         [
             *(f"{it}_without_memory" for it in ("areas::areas", "disks::mount", "tapes::mount")),
             *(f"{it}_without_memory" for it in ("tapes::record", "tape_images::load", "disk_images::images")),
@@ -361,19 +361,19 @@ TESTS = [
         ],
         MUST_PASS,
     ),
-    ("component_tests", ["two_senders_and_a_taker"], {}),
-    ("component_tests", ["run_without_memory", "commands_without_memory"], RUNS_WITHOUT),
-    ("job_tests", ["controls_without_memory", "steps_without_memory"], MUST_PASS),
+    ("test_system", ["two_senders_and_a_taker"], {}),
+    ("test_system", ["run_without_memory", "commands_without_memory"], RUNS_WITHOUT),
+    ("test_system", ["controls_without_memory", "steps_without_memory"], MUST_PASS),
     (
-        "system_tests",
+        "test_system",
         [
             *(f"{it}_without_memory" for it in ("arrive", "reserve", "system")),
             "gate_is_told_of_want_of_memory",
         ],
         MUST_PASS,
     ),
-    ("system_tests", ["purge_of_a_task_without_memory"], REFUSES),
-    ("system_tests", ["finish_without_memory", "finish_after_excp_without_memory"], RESUMES),
+    ("test_system", ["purge_of_a_task_without_memory"], REFUSES),
+    ("test_system", ["finish_without_memory", "finish_after_excp_without_memory"], RESUMES),
 ]
 
 

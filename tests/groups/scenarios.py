@@ -1,6 +1,6 @@
 """Scenarios, event by event, with locks and without: what each event answers, each expectation changed in turn, and each
-allocation made to fail. `step` carries them out on the library, which has neither locks nor rows; the program locked_steps
-(crates/locked_steps) has both.
+allocation made to fail. `step` carries them out on the library, which has neither locks nor rows; the program test_locked_steps
+(crates/test_locked_steps) has both.
 
 The files are tests/cases/scenarios/*.scenario and samples/scenarios/*.scenario, whose `expect` lines follow from
 docs/SPECIFICATION.md, tests/cases/scenarios/*.findings, with scenarios that have faults and what is printed of them, and
@@ -71,18 +71,18 @@ def expectations(text):
     return [(at, line) for at, line in enumerate(text.split("\n"), 1) if line.startswith("expect ")]
 
 
-def locked_steps(setup):
+def test_locked_steps(setup):
     """The program with locks and rows: beside the one that is tested, or as `rt ci` built it."""
-    for path in f"{os.path.dirname(setup.program)}/locked_steps", f"{TOP}/crates/locked_steps/out/locked_steps":
+    for path in f"{os.path.dirname(setup.program)}/test_locked_steps", f"{TOP}/crates/test_locked_steps/out/test_locked_steps":
         if os.access(path, os.X_OK):
             return path
-    raise Skipped("locked_steps is not built: `rt run` in crates/locked_steps")
+    raise Skipped("test_locked_steps is not built: `rt run` in crates/test_locked_steps")
 
 
 def carried_out(setup, text, *views):
     """Carries a scenario out, with locks and without: both answer the same, also of the entries and the state of each unit after
     each event, if `views` are the words for that. Of a fault the program with locks says line and name alone."""
-    ran, locked = setup.run("step", *views, script=text), run([locked_steps(setup), *views[:1]], text)
+    ran, locked = setup.run("step", *views, script=text), run([test_locked_steps(setup), *views[:1]], text)
     said = [it for it in ran.err.splitlines(True) if "; answered: " in it]
     for it in ran.err.splitlines()[len(said) :][:1]:
         line, name = re.match("<stdin>:([0-9]*):? ([A-Za-z]+): ", it).groups()
@@ -201,7 +201,7 @@ def runs_out_of_memory(setup, file, lacks, refusals):
     setup.skip_unproved()
     if lacks:
         raise Skipped(lacks)
-    words = [locked_steps(setup)]
+    words = [test_locked_steps(setup)]
     # the `expect` lines of the scenario judge this text
     plan = refusals.Plan(words, refusals.prints_a_part, file, run(words, read(file)).out)
     plan.judged(os.path.basename(words[0]), 1)
@@ -329,7 +329,7 @@ def cases(setup):
         yield Case(f"{name}: check", lambda f=file, p=place: is_accepted(setup, read(f), p), f"{place}, by docs/MANUAL.md")
         yield Case(f"{name}: each expectation changed", lambda f=file: is_missed(setup, f), f"{place}, by docs/MANUAL.md")
         judge = lambda f=file: runs_out_of_memory(setup, f, lacks, refusals)
-        yield Case(f"{name}: each allocation of locked_steps", judge, f"{place}, by docs/MANUAL.md")
+        yield Case(f"{name}: each allocation of test_locked_steps", judge, f"{place}, by docs/MANUAL.md")
     origin = "tests/groups/scenarios.py, by docs/SPECIFICATION.md"
     for name, give in made():
         yield Case(name, lambda g=give: are_met(setup, g), origin)

@@ -1,5 +1,5 @@
 /* Makes small requests of a disk, by single events or by excp_serve, and measures them: `requests events 1000`,
- * `requests serve 1000`. Each searches for a record, transfers back and reads it, as a book cycle of excp_speed does. */
+ * `requests serve 1000`. Each searches for a record, transfers back and reads it, as a book cycle of bench_steps does. */
 #include "excp.h"
 
 #include <stdio.h>

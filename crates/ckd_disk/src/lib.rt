@@ -6,7 +6,7 @@
 //!
 //! A volume is a disk that is recorded track by track, as from an image.
 //!
-//! Tests: component_tests (`disks`, `disk_images`), tests/cases/scripts.
+//! Tests: test_system (`disks`, `disk_images`), tests/cases/scripts.
 #![tactic(auto)]
 
 mod access;

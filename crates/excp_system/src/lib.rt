@@ -4,7 +4,7 @@
 //! book through the task's post row. A unit's lock keeps two facts. The book's arrivals are what was taken from the
 //! intake row. Each task was sent what the book gave of its posted values.
 //!
-//! Tests: system_tests (`units`), tests/mutants/excp_system.
+//! Tests: test_system (`units`), tests/mutants/excp_system.
 #![tactic(auto)]
 
 mod balance;

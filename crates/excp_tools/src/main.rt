@@ -12,14 +12,17 @@
 mod answers;
 mod file_name;
 mod images;
+mod noted;
 mod outcomes;
 mod pace;
 mod progress;
 mod record;
+mod recorded_run;
 mod report;
 mod saver;
 mod screen;
 mod script;
+mod unit_records;
 mod words;
 
 use images::load_all;

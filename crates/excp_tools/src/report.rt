@@ -2,14 +2,15 @@
 
 use crate::UNFIT;
 use crate::record::print_record;
+use crate::recorded_run::{RecordedRun, run_recorded};
 use crate::saver::{Medium, Saver, fits};
 use crate::script::{SizedScript, read_sized};
+use crate::unit_records::unit_records;
 use crate::words::Words;
 use any_device::AnyDevice;
 use job_media::{MountedImages, mount_images};
 use job_script::{JobError, Script};
 use medium_image::{Image, Kept};
-use recorded_run::{RecordedRun, run_recorded, unit_records};
 use run_record::Run;
 use std::cell::Cell;
 use std::sync::Wait;

@@ -2,7 +2,7 @@
 //!
 //! An image is read piece by piece: `fill` reads a piece whole, or as much as the reader has.
 //!
-//! Tests: component_tests (`tape_images`, `disk_images`), with a reader that fails.
+//! Tests: test_system (`tape_images`, `disk_images`), with a reader that fails.
 #![tactic(auto)]
 
 mod source;

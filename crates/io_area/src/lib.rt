@@ -1,6 +1,6 @@
 //! Storage: a map from addresses below 2^24 to bytes, at most 8,192 of them in a row.
 //!
-//! Tests: component_tests (`areas`), tests/cases/mistakes.
+//! Tests: test_system (`areas`), tests/cases/mistakes.
 #![tactic(auto)]
 
 mod area;

@@ -10,7 +10,7 @@
 //! (`system_threads::run_beside`). For tasks that do more or less, a [`Job`] does the commands of one. [`ended`] is the
 //! result of a run, and [`write`] prints it.
 //!
-//! Tests: job_tests, tests/cases/scripts, the groups random and purges of tests/run.
+//! Tests: test_system (`jobs`), tests/cases/scripts, the groups random and purges of tests/run.
 #![tactic(auto)]
 
 mod command_fault;

@@ -5,7 +5,7 @@
 //! order, and has posted each request of it just once. What a task had collected, and what the [`Report`] lists for
 //! it, is all that was posted for it.
 //!
-//! Tests: system_tests (`endings`), tests/mutants/post_ledger.
+//! Tests: test_system (`endings`), tests/mutants/post_ledger.
 #![tactic(auto)]
 
 mod audit;

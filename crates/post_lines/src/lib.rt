@@ -1,7 +1,7 @@
 //! The posts of requests: how each ended, the slots that keep that, and a line of each, as a run prints them. A run makes the slots
 //! before it starts, from the EXCPs of its script, so that a post takes no memory.
 //!
-//! Tests: job_tests, tests/cases/scripts, the group reports of tests/run.
+//! Tests: test_system (`jobs`), tests/cases/scripts, the group reports of tests/run.
 #![tactic(auto)]
 
 mod end;

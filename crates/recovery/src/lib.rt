@@ -1,6 +1,6 @@
 //! What becomes of a request whose channel program has ended: another try, or an end with a code.
 //!
-//! Tests: component_tests (`verdicts`).
+//! Tests: test_system (`verdicts`).
 #![tactic(auto)]
 
 mod answer;

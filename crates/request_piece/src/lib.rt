@@ -1,6 +1,6 @@
 //! Requests: what a program issues, as its IOB says, and what is posted back.
 //!
-//! Tests: component_tests (`requests`).
+//! Tests: test_system (`requests`).
 #![tactic(auto)]
 
 mod check;

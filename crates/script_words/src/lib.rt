@@ -3,7 +3,7 @@
 //! Lines end with LF. Words are separated by one or more spaces. A word is a decimal number, hexadecimal digits, bytes
 //! of two hexadecimal digits each, or a fixed word.
 //!
-//! Tests: component_tests (`words`), tests/cases/scripts, tests/cases/mistakes.
+//! Tests: tests/cases/scripts, tests/cases/mistakes.
 #![tactic(auto)]
 
 mod forms;

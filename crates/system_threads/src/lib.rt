@@ -8,7 +8,7 @@
 //! of a system, [`Alarm::of`] what wakes them, and [`Crew`] the workers. [`run_beside`] lets the tasks run beside
 //! these, and [`parted`] gives them back, in the room that [`PartsRoom`] had for them before.
 //!
-//! Tests: job_tests, the groups random and costs of tests/run.
+//! Tests: test_system (`jobs`), the groups random and costs of tests/run.
 #![tactic(auto)]
 
 mod alarm;

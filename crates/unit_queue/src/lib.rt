@@ -1,6 +1,6 @@
 //! The requests that wait for a unit, in order of arrival, in a ring whose room is made once.
 //!
-//! Tests: component_tests (`queues`).
+//! Tests: test_system (`queues`).
 #![tactic(auto)]
 
 mod queue;

@@ -1,2 +1,0 @@
--- Faults at the last numbers of commands.
-pub mod Ordinals

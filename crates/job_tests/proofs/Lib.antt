@@ -1,3 +1,0 @@
--- Worked channel programs and runs.
-pub mod Rows
-pub mod Runs

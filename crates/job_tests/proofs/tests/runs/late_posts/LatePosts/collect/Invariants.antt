@@ -1,5 +1,0 @@
-use Rattle.std.proofs.Common.{◌≡◌}
-use Rattle.job_tests.proofs.tests.runs.late_posts.LatePosts.collect.Given as goal
-
-abbrev pub invariant-loop : goal.invariant-loop
-invariant-loop g l = l.client.number ≡ l.fn.client.number

@@ -1,2 +1,0 @@
--- What the tests of books alone need.
-pub mod Openings

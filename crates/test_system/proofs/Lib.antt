@@ -1,0 +1,7 @@
+-- Faults at the last numbers of commands.
+pub mod Ordinals
+-- Worked channel programs and runs.
+pub mod Rows
+pub mod Runs
+-- What the tests of books alone need.
+pub mod Openings

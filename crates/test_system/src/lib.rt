@@ -1,0 +1,45 @@
+//! Tests of what only code can reach: locks, threads, gates, and calls that run out of memory.
+//!
+//! They test what no contract says: that a call succeeds with enough memory, that it returns only out of memory without,
+//! and that threads wait and wake. All else is data: tests/cases. A call that always runs out of memory, the mutant of
+//! memory_is_enough, fails every test, but for those that are made for calls that run out of memory.
+#![tactic(auto)]
+
+#[cfg(test)]
+mod areas;
+#[cfg(test)]
+mod devices;
+#[cfg(test)]
+mod disk_images;
+#[cfg(test)]
+mod disks;
+#[cfg(test)]
+mod endings;
+#[cfg(test)]
+mod fixtures;
+#[cfg(test)]
+mod images;
+#[cfg(test)]
+mod jobs;
+#[cfg(test)]
+mod memory;
+#[cfg(test)]
+mod printers;
+#[cfg(test)]
+mod queues;
+#[cfg(test)]
+mod requests;
+#[cfg(test)]
+mod rows;
+#[cfg(test)]
+mod scripts;
+#[cfg(test)]
+mod subchannels;
+#[cfg(test)]
+mod tape_images;
+#[cfg(test)]
+mod tapes;
+#[cfg(test)]
+mod units;
+#[cfg(test)]
+mod verdicts;
