@@ -1,7 +1,7 @@
 /* Refuses calls of a program, since a Rattle test cannot make memory fail: preloaded into it, those calls of one kind fail whose numbers REFUSE has (one or two, from
  * 1; 0 for none). REFUSE_KIND is `growth` for malloc and realloc, which then answer that there is no memory, `lasting` for
- * the same from the first such number on, `write` for what is written to standard output, `thread` for threads, which
- * then cannot be made, and `file` for what is written to other files, synced and renamed. At such a call `kill` kills the
+ * the same from the first such number on, `write` for what is written to standard output, `read` for what is read from any file,
+ * `thread` for threads, which then cannot be made, and `file` for what is written to other files, synced and renamed. At such a call `kill` kills the
  * program instead. How many such calls there were, in the program and in those that it starts, stands, as eight bytes, in
  * the file that CALLS names, which is empty before. */
 #define _GNU_SOURCE
@@ -20,7 +20,7 @@
 extern void *__libc_malloc(size_t);
 extern void *__libc_realloc(void *, size_t);
 
-enum kind { GROWTH, WRITE, THREAD, FILES };
+enum kind { GROWTH, WRITE, READ, THREAD, FILES };
 
 typedef int create(pthread_t *, const pthread_attr_t *, void *(*)(void *), void *);
 
@@ -45,6 +45,8 @@ __attribute__((constructor)) static void begin(void)
     lasts = name && strcmp(name, "lasting") == 0;
     if (name && strcmp(name, "write") == 0)
         kind = WRITE;
+    if (name && strcmp(name, "read") == 0)
+        kind = READ;
     if (name && strcmp(name, "thread") == 0)
         kind = THREAD;
     kills = name && strcmp(name, "kill") == 0;
@@ -95,6 +97,15 @@ ssize_t write(int to, const void *bytes, size_t count)
         return -1;
     }
     return syscall(SYS_write, to, bytes, count);
+}
+
+ssize_t read(int from, void *bytes, size_t count)
+{
+    if (is_refused(READ)) {
+        errno = EIO;
+        return -1;
+    }
+    return syscall(SYS_read, from, bytes, count);
 }
 
 int fsync(int file)

@@ -132,6 +132,67 @@ class Channels(unittest.TestCase):
             with self.assertRaises(excp.BadNumber):
                 channel.start(area, cylinder=cylinder, head=head)
 
+    def test_file_masks(self):
+        """Bits 0 and 1 inhibit all writes, or only those that format; a 1 in bit 3 or in bit 4 inhibits seeks (SPECIFICATION.md)."""
+        disk = self.site.disk(cylinders=1, heads=1, track_bytes=80, records=[Record(0, 0, 1, b"DATA")])
+        channel = Channel(disk)
+
+        def ends(mask, *ccws):
+            area = Area(0x1000)
+            area.program(*ccws)
+            area.data("ID", bytes([0, 0, 0, 0, 1]))
+            area.data("SEEK", bytes(6))
+            area.data("COUNT", bytes([0, 0, 0, 0, 2, 0, 0, 1]) + b"N")
+            self.assertEqual(channel.start(area, file_mask=mask), 0)
+            channel.run()
+            status = channel.test()
+            return status.csw.unit, status.sense
+
+        find = Ccw(Op.SIDE, "ID", Flag.CC, 5), Ccw(Op.TIC, "CP")
+        done, rejected, protected = (0x0C, 0), (0x0E, 0x8000), (0x0E, 0x0004)
+        masks = {0x00: (done, done, done), 0x40: (rejected, rejected, done), 0x80: (done, rejected, done), 0xC0: (done, done, done),
+                 0x10: (done, done, protected), 0x08: (done, done, protected)}
+        for mask, due in masks.items():
+            writes = ends(mask, *find, Ccw(Op.WD, "COUNT", count=4))
+            formats = ends(mask, *find, Ccw(0x1D, "COUNT", count=9))
+            seeks = ends(mask, Ccw(Op.SEEK, "SEEK", count=6))
+            self.assertEqual((writes, formats, seeks), due, f"{mask:02X}")
+
+    def test_seek(self):
+        """Under a mask of 00 it goes to cylinder 1, whose record is read. A bin other than 0 is no place: a command reject."""
+        area = Area(0x1000)
+        area.program(Ccw(Op.SEEK, "SEEK", Flag.CC, 6), Ccw(Op.RD, "BUFFER", count=4))
+        area.data("SEEK", bytes([0, 0, 0, 1, 0, 0]))
+        area.space("BUFFER", 4)
+        self.channel.start(area)
+        self.assertEqual((self.channel.run(), self.channel.at("BUFFER", 4)), (ChannelRun(2, True), b"DATA"))
+        self.assertEqual(self.channel.test(), ChannelStatus(0, Csw(0x1010, 0x0C, 0x00, 0)))
+        area = Area(0x1000)
+        area.program(Ccw(Op.SEEK, "SEEK", count=6))
+        area.data("SEEK", bytes([0, 1, 0, 1, 0, 0]))
+        self.channel.start(area)
+        self.assertTrue(self.channel.run().is_pending)
+        self.assertEqual(self.channel.test(), ChannelStatus(0, Csw(0x1008, 0x0E, 0x00, 6), 0x8000))
+
+    def test_first_and_last_faults(self):
+        """Faults of the first two commands, of the last one that a command may have, and of the last number that there is: no later
+        command meets one. Two faults of one number are refused."""
+        most = 2**64 - 1
+        faults = [Fault(number, sense=sense) for number, sense in ((1, 0x1000), (2, 0x0800), (most - 1, 0x0800), (most, 0x0800))]
+        disk = self.site.disk(cylinders=1, heads=1, track_bytes=40, faults=faults)
+        channel = Channel(disk)
+        area = Area(0x1000)
+        area.program(Ccw(0x03, flags=Flag.SLI))
+
+        def sense(of):
+            of.start(area)
+            of.run()
+            return of.test().sense
+
+        self.assertEqual([sense(channel) for _ in range(50)], [0x1000, 0x0800] + [0] * 48)
+        with self.assertRaises(excp.BadMedium):
+            self.site.disk(cylinders=1, heads=1, track_bytes=40, faults=[faults[3], faults[3]])
+
     def test_close(self):
         """It frees one channel: the others stay as they are, and no new one gets its number."""
         with Channel(self.disk) as second:

@@ -84,7 +84,8 @@ post 0 0 4 7F 001048 0C00 0000 0000 CHANGED.
 # print_line: one command, the CCW at 1030, so the CSW has 1038. The ECB has the code in its first byte (3.5).
 READ_TAPE = "000B FIRST\n0004 SECOND BLOCK\ncode 41, unit status 0D\n"
 PRINT_LINE = "request 1 of DCB 1 at unit 0: code 7F at 001038\nposts 1, commands 1, ECB 7F\n"
-OUT_OF_MEMORY, FUZZ, LONG_USE = "tests/library/out_of_memory", "tests/library/fuzz", "tests/library/long_use"
+COMMANDS, OUT_OF_MEMORY = "tests/library/commands", "tests/library/out_of_memory"
+FUZZ, LONG_USE = "tests/library/fuzz", "tests/library/long_use"
 REQUESTS, VOLUME = "tests/library/requests", "tests/library/volume"
 
 # How many cylinders the volume has whose memory is measured: 2.4 MiB, or 203.
@@ -550,7 +551,7 @@ def in_c(setup):
     origin = "c/excp.h"
     for compiler in COMPILERS:
         yield Case(f"make with {compiler}", lambda c=compiler: is_made(c), "crates/example_print_tape/stdout and examples/c")
-        for program in *PRINTS, OUT_OF_MEMORY:
+        for program in *PRINTS, COMMANDS, OUT_OF_MEMORY:
             yield Case(f"{program} with {compiler}", lambda c=compiler, p=program: runs_in_c(c, p), origin)
         yield Case(f"{LONG_USE} with {compiler}", lambda c=compiler: runs_in_c(c, LONG_USE, *uses, seconds=3600), origin)
         for program in PRINTS:
@@ -558,7 +559,7 @@ def in_c(setup):
         for seed, call, kind in (1, runs_in_c, "alone"), (2, runs_sanitized, "and sanitizers"):
             judge = lambda c=compiler, s=seed, f=call: f(c, FUZZ, str(s), str(seconds), seconds=300 + 2 * seconds)
             yield Case(f"{FUZZ} with {compiler} {kind}", judge, origin)
-    for program in *PRINTS, OUT_OF_MEMORY:
+    for program in *PRINTS, COMMANDS, OUT_OF_MEMORY:
         yield Case(f"{program} with libexcp.a", lambda p=program: runs_static("gcc", p), origin)
         yield Case(f"{program} under valgrind", lambda p=program: runs_in_valgrind(p), origin)
     yield Case("examples/c/search_disk saves its disk", saves_its_disk, "docs/FORMATS.md")

@@ -1,4 +1,4 @@
-"""Calls made to fail in turn: each allocation, each write, each sync and rename of a file, and each thread, in programs and
+"""Calls made to fail in turn: each allocation, each read and write, each sync and rename of a file, and each thread, in programs and
 in tests. A program is killed at each call on a file, too.
 
 `tests/refuse.c`, preloaded, makes calls of one kind fail by their numbers. A case runs a proved program, or a test as `rt
@@ -77,6 +77,18 @@ def rejects_its_output(ran, text):
     return "output not written" if is_reported and text.startswith(ran.out) else None
 
 
+def says_unreadable(ran, text):
+    """It reported that its script cannot be read, and printed nothing."""
+    return "unreadable" if (ran.status, ran.out, ran.err) == (1, "", "excp_job: script unreadable\n") else None
+
+
+def reads_nothing(ran, text):
+    """It could not read an image, or its script. It printed nothing of a run, and saved nothing: the package says the image's fault."""
+    if ran.out or ran.files != {**IMAGES, **dict.fromkeys(SAVED.values(), b"")}:
+        return None
+    return {(8, ""): "no image", (1, "excp: script unreadable\n"): "unreadable"}.get((ran.status, ran.err))
+
+
 def fills_or_lacks(ran, text):
     """It printed all and filled its files with the images; or it ran out of memory. The package keeps no file of such a run."""
     saved = {SAVED[name]: data for name, data in IMAGES.items()}
@@ -144,13 +156,6 @@ def is_purge_test(ran, text):
     way = is_test(ran, text)
     is_refused = way == "passed" and re.search(r"^unit 1 has no memory for the purge$", ran.out, re.M)
     return "passed, with unit 1 refusing the purge" if is_refused else way
-
-
-def is_mounted_test(ran, text):
-    """A test ended in a plain error of memory before its device was mounted: a call that fails after that would be one of the
-    device."""
-    is_early = is_test(ran, text) == "out of memory" and not re.search(r"^mounted$", ran.out, re.M)
-    return "out of memory" if is_early else None
 
 
 def is_resumed_test(ran, text):
@@ -261,6 +266,65 @@ def tests(crate, name, plan, jobs):
     return "; ".join(replace(plan, words=[program, it], ways={}).judged(it, jobs) for it in names)
 
 
+# A disk with a record, a DCB of a unit, and a request that reads the record. Its IOB names this extent.
+READS = "tasks 1\ndisk 0 0 1 1 40\nrec 0 0 0 1 - C1C2C3C4\n"
+OPEN = "open {} out 18000000000000000000000000000001\n"
+REQUEST = (
+    "area 0 001000 4200000000001028 0000000000000000 0000103000000001 0000000000000000 {}00000000000001 0000000000000000 "
+    "3100105040000005 0800103000000000 0600106000000004 0000000000000000 0000000001000000 0000000000000000 0000000000000000\n"
+    "excp 0 0 1 001000 0 001060 4\n"
+)
+
+# What a request meets: a line of its unit, its extent, and its post. The fault of its first command is tried again (chapter 6 of
+# docs/SPECIFICATION.md). Extent 1 of a DCB with one extent is a violation.
+MEETS = {
+    "nothing": ("", "00", "7F 001048 0C00 0000 0000 C1C2C3C4"),
+    "a fault": ("fault 0 1 0E 00 1000\n", "00", "7F 001048 0C00 0000 0000 C1C2C3C4"),
+    "a violation": ("", "01", "42 000000 0000 0000 0000 00000000"),
+}
+
+# A trace makes room for this many entries at once. A run of one request makes fewer.
+ENTRIES = 4
+
+# The controls of a task, and how many entries they make.
+CONTROLS = {"purge 0 0 1 halt": 1, "purgetask 0 0 halt": 2, "close 0 0 1": 1, "reset 0 0 1": 1}
+
+
+def written(work, name, text):
+    """A script in a file."""
+    file = f"{work}/{name.replace(' ', '_')}.script"
+    with open(file, "w", encoding="ascii") as it:
+        it.write(text)
+    return file
+
+
+def full_traces(work, setup, meets, kind, jobs):
+    """Each call of a unit, with its trace full, runs out of memory: once, or for good. The gate of its worker hears of it. So the run
+    goes on, or its task, which sleeps, wakes and ends."""
+    line, extent, post = MEETS[meets]
+    judge = prints_nothing if kind == "lasting" else prints_all_or_nothing
+    ways = []
+    for count in range(1, ENTRIES + 1):
+        file = written(work, f"{meets} {count}", READS + line + OPEN.format(0) * count + REQUEST.format(extent))
+        plan = Plan([setup.program, "run"], judge, file, f"post 0 0 1 {post}\nend 1\n", kind)
+        ways.append(plan.judged(f"{meets}, {count} DCBs", jobs))
+    return "; ".join(ways)
+
+
+def controls(work, setup, jobs):
+    """A control for which a unit has no memory, its trace being full, ends its task."""
+    units = "tasks 1\ndisk 0 3 1 1 40\ndisk 1 6 1 1 40\n" + OPEN.format(0) * ENTRIES + OPEN.format(1) * ENTRIES
+    ways = []
+    for control, entries in CONTROLS.items():
+        file, words = written(work, control, f"{units}{control}\n"), [setup.tools, "report", "form=events"]
+        # the groups histories and reports judge what is made of this record
+        whole = run(words, read(file)).out
+        found = re.findall(r'^{"what":"controlled",', whole, re.M)
+        require(len(found) == entries, f"{control}: {len(found)} entries, and not {entries}")
+        ways.append(Plan(words, prints_a_part, file, whole, least=2).judged(control, jobs))
+    return "; ".join(ways)
+
+
 def long_posts(setup, work):
     """A plan for a run whose posts are written in several parts."""
     script = f"{work}/long.script"
@@ -300,6 +364,8 @@ def programs(setup):
     name, it = plan("report", fills_or_lacks, script, text, "form=posts", *files, files=IMAGES, opened=opened, least=2)
     # the record of these posts
     yield name, replace(it, text=it.run(0)[0].out)
+    yield f"{name}: reads", replace(it, judge=reads_nothing, text=it.run(0)[0].out, kind="read", calls=6)
+    yield f"run {os.path.relpath(STORED, TOP)}: reads", Plan([setup.program, "run"], says_unreadable, STORED, read(POSTS), "read")
     loads = ["--load", "0=tape", "--load", "1=disk", "--save", "0=saved_tape", "--save", "1=saved_disk"]
     words = setup.command("report", "--posts", *loads)
     for kind, judge, least in ("file", saves_one_or_all, 2), ("kill", is_killed_whole, 1):
@@ -343,38 +409,13 @@ def lacks_memory_at_lines(is_long, words, script, status, text):
     return f"{' '.join(words)} {os.path.relpath(script, TOP)}: {sum(ways.values())} of {count} lines: {ways}"
 
 
-# The tests: the crate, the names, and what is required of the runs.
-MUST_PASS = {"passes": True}
-RESUMES = {"judge": is_resumed_test, "passes": True, "pairs": True}
-# It passes, passes with unit 1 refusing, and ends with an error of memory.
-REFUSES = {"judge": is_purge_test, "passes": True, "least": 3}
-RUNS_WITHOUT = {"judge": is_mounted_test, "kind": "lasting"}
-TESTS = [
-    (
-        "test_system",
-        [
-            *(f"{it}_without_memory" for it in ("areas::areas", "disks::mount", "tapes::mount")),
-            *(f"{it}_without_memory" for it in ("tapes::record", "tape_images::load", "disk_images::images")),
-            "printers::mount_without_memory",
-            *(f"{it}_without_memory" for it in ("queues::queues", "requests::requests", "requests::over_again")),
-            "rows::rows_without_memory",
-        ],
-        MUST_PASS,
-    ),
-    ("test_system", ["two_senders_and_a_taker"], {}),
-    ("test_system", ["run_without_memory", "commands_without_memory"], RUNS_WITHOUT),
-    ("test_system", ["controls_without_memory", "steps_without_memory"], MUST_PASS),
-    (
-        "test_system",
-        [
-            *(f"{it}_without_memory" for it in ("arrive", "reserve", "system")),
-            "gate_is_told_of_want_of_memory",
-        ],
-        MUST_PASS,
-    ),
-    ("test_system", ["purge_of_a_task_without_memory"], REFUSES),
-    ("test_system", ["finish_without_memory", "finish_after_excp_without_memory"], RESUMES),
-]
+# The tests of test_system, and what is required of the runs of each. One passes, passes with unit 1 refusing, and ends with an error
+# of memory; another resumes.
+TESTS = {
+    "over_again_without_memory": {"passes": True},
+    "purge_of_a_task_without_memory": {"judge": is_purge_test, "passes": True, "least": 3},
+    "finish_without_memory": {"judge": is_resumed_test, "passes": True, "pairs": True},
+}
 
 
 def compiled():
@@ -403,18 +444,25 @@ def cases(setup):
 
         return Case(name, judged, origin)
 
-    def writes():
+    def in_folder(call, *given):
         with tempfile.TemporaryDirectory() as work:
-            return long_posts(setup, work).judged("run samples/timed small: writes", jobs)
+            return call(work, *given)
 
-    for crate, names, required in reversed(TESTS):
-        for name in names:
-            plan = Plan([], **{"judge": is_test, "step": 1 if setup.is_long else STEP, **required})
-            origin = f"the test {name} of {crate}, and tests/groups/refusals.py"
-            yield case(f"{crate} {name}", lambda c=crate, n=name, p=plan: tests(c, n, p, jobs), origin)
+    def writes():
+        return in_folder(lambda work: long_posts(setup, work).judged("run samples/timed small: writes", jobs))
+
+    for name, required in reversed(TESTS.items()):
+        plan = Plan([], **{"judge": is_test, "step": 1 if setup.is_long else STEP, **required})
+        origin = f"the test {name} of test_system, and tests/groups/refusals.py"
+        yield case(f"test_system {name}", lambda n=name, p=plan: tests("test_system", n, p, jobs), origin)
     for name, plan in programs(setup):
         origin = "the text stored for this script, docs/MANUAL.md, and tests/groups/refusals.py"
         yield case(name, lambda n=name, p=plan: p.judged(n, jobs), origin)
+    for meets in MEETS:
+        for kind in "growth", "lasting":
+            judge = lambda m=meets, k=kind: in_folder(full_traces, setup, m, k, jobs)
+            yield case(f"full traces, {meets}: {kind}", judge, "docs/SPECIFICATION.md, chapters 4 and 6")
+    yield case("controls of full traces", lambda: in_folder(controls, setup, jobs), "docs/MANUAL.md")
     for words, script, status, text in package_words(setup):
         name = f"{' '.join(words)} {os.path.relpath(script, TOP)}: memory at lines"
         yield Case(name, lambda it=(setup.is_long, words, script, status, text): lacks_memory_at_lines(*it), "docs/MANUAL.md")

@@ -2,7 +2,8 @@
  *
  * The calls of a list are made three times. The first time no allocation fails, and after each call all that can be seen of the
  * site is noted. The second and third time each call is made with its first allocation failing, then with its second, and so on
- * until it succeeds. A call that returns EXCP_NO_MEMORY leaves all as it was (but excp_serve and excp_settle, which keep what they
+ * until it succeeds. All this is done again with more and more entries in the trace of each unit, made by resets of its DCB. So each call
+ * that adds entries finds the trace full once, and short of one entry. A call that returns EXCP_NO_MEMORY leaves all as it was (but excp_serve and excp_settle, which keep what they
  * did), and the call that succeeds leaves what was noted. A call that is refused for a reason says it, or nothing if there was no memory
  * for the words. In the end no block is left. */
 #define _GNU_SOURCE
@@ -280,14 +281,28 @@ static int attempt(excp_site *site, int number, unsigned long place, written *to
     return REFUSED;
 }
 
+/* After the DCBs were opened: entries that fill the traces, up to the room that a trace makes at once. */
+enum { FIRST_ISSUE = 15, MOST_FILLED = 16 };
+
+static int fill(excp_site *site, int entries)
+{
+    for (uint16_t unit = 0; unit < 3; unit++)
+        for (int at = 0; at < entries; at++)
+            if (excp_reset(site, unit, 1) != EXCP_OK)
+                return wrong(FIRST_ISSUE, 0, "a trace is not filled");
+    return DONE;
+}
+
 /* Makes all calls. If `failing`, each is made with one allocation failing after another. */
-static int make_all(excp_site *site, int failing)
+static int make_all(excp_site *site, int failing, int entries)
 {
     written to;
     memset(&to, 0xA5, sizeof to);
     for (int number = 0; number < CALLS; number++) {
         int ended = REFUSED;
         uint64_t sum;
+        if (number == FIRST_ISSUE && fill(site, entries) != DONE)
+            return 1;
         for (unsigned long place = failing ? 1 : 0; ended == REFUSED; place++)
             ended = attempt(site, number, place, &to);
         if (ended == WRONG)
@@ -307,15 +322,16 @@ static int make_all(excp_site *site, int failing)
 int main(void)
 {
     int failed = 0;
-    for (int form = 0; form < 3 && !failed; form++) {
+    for (int run = 0; run < 3 * MOST_FILLED && !failed; run++) {
         excp_site site = EXCP_SITE_INIT;
+        int form = run % 3;
         long before;
         free(kept);
         kept = NULL;
         kept_length = 0;
         before = blocks;
         lasts = form == 2;
-        failed = make_all(&site, form > 0);
+        failed = make_all(&site, form > 0, run / 3);
         if (excp_site_free(&site) != EXCP_OK)
             failed = wrong(CALLS, 0, "the site is not freed");
         free(kept);

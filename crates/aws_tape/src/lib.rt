@@ -5,7 +5,7 @@
 //! several. `save` writes the image of a tape. What was not written since it was mounted has the chunks of its layout.
 //! The rest has one chunk for each block. Both go over the image in a stream, and keep one block beside the tape.
 //!
-//! Tests: test_system (`tape_images`).
+//! Tests: the groups images and library_clients of tests/run, tests/library/out_of_memory.c.
 #![tactic(auto)]
 
 mod chunk;

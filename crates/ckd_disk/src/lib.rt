@@ -6,7 +6,7 @@
 //!
 //! A volume is a disk that is recorded track by track, as from an image.
 //!
-//! Tests: test_system (`disks`, `disk_images`), tests/cases/scripts.
+//! Tests: tests/library/commands.c, python/tests/test_channels.py, tests/cases/scripts.
 #![tactic(auto)]
 
 mod access;

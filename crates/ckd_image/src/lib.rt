@@ -5,7 +5,7 @@
 //! beside the records of its tracks is kept, so that `save` writes the same bytes for a disk that was not written on.
 //! What `save` writes is an image, and `load` reads it back as the disk that was saved.
 //!
-//! Tests: test_system (`disk_images`).
+//! Tests: the groups images and library_clients of tests/run, tests/library/out_of_memory.c.
 #![tactic(auto)]
 
 mod fault;

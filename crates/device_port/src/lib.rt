@@ -1,7 +1,7 @@
 //! The port between a channel and a device: the commands of a device, the bytes that they move between it and a
 //! program's data areas, and its faults.
 //!
-//! Tests: test_system (`devices`), tests/cases/histories/tapes.steps.
+//! Tests: python/tests/test_channels.py, tests/cases/histories/tapes.steps.
 #![tactic(auto)]
 
 mod answer;

@@ -2,7 +2,7 @@
 //!
 //! An image is read piece by piece: `fill` reads a piece whole, or as much as the reader has.
 //!
-//! Tests: test_system (`tape_images`, `disk_images`), with a reader that fails.
+//! Tests: the group images of tests/run, and the group refusals, with reads that fail.
 #![tactic(auto)]
 
 mod source;

@@ -1,6 +1,6 @@
 //! Storage: a map from addresses below 2^24 to bytes, at most 8,192 of them in a row.
 //!
-//! Tests: test_system (`areas`), tests/cases/mistakes.
+//! Tests: tests/library/out_of_memory.c, tests/cases/mistakes.
 #![tactic(auto)]
 
 mod area;

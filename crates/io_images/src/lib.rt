@@ -5,7 +5,7 @@
 //! `specs/Images.antt` says what the bytes mean, `specs/Written.antt` what an image is after `write`, and
 //! `specs/Bits.antt` has the named bits. Nothing in this crate takes memory or fails.
 //!
-//! Tests: test_system (`images`).
+//! Tests: python/tests/test_channels.py, tests/cases/scripts/images.posts.
 #![tactic(auto)]
 
 mod address;

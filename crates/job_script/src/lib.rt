@@ -3,7 +3,7 @@
 //! A script has at most 1,048,576 bytes. Its lines end with LF; words are separated by spaces; a line that is empty or
 //! whose first word begins with `#` says nothing. Set-up lines come before the first command.
 //!
-//! Tests: test_system (`scripts`), tests/cases/scripts/broken.posts, tests/cases/mistakes/lines.findings.
+//! Tests: tests/cases/scripts/broken.posts, tests/cases/mistakes/lines.findings, the group refusals of tests/run.
 #![tactic(auto)]
 
 mod command;

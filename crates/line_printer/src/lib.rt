@@ -3,7 +3,7 @@
 //! A printer is seen as the list of its printed lines and the position of the next one. The list has room for all
 //! lines from the beginning, so no command takes memory.
 //!
-//! Tests: test_system (`printers`), tests/cases/scripts.
+//! Tests: tests/library/commands.c, tests/cases/scripts.
 #![tactic(auto)]
 
 mod command;

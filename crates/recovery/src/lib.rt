@@ -1,6 +1,6 @@
 //! What becomes of a request whose channel program has ended: another try, or an end with a code.
 //!
-//! Tests: test_system (`verdicts`).
+//! Tests: tests/cases/scripts/verdicts.posts, tests/mutants/recovery.
 #![tactic(auto)]
 
 mod answer;

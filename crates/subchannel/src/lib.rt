@@ -2,7 +2,7 @@
 //! (Principles of Operation, chapter 14). Every answer is a function of its phase: not operational, idle,
 //! running a program, or status pending.
 //!
-//! Tests: test_system (`subchannels`).
+//! Tests: python/tests/test_channels.py, tests/cases/scenarios, tests/mutants/subchannel.
 #![tactic(auto)]
 
 ghost use Rattle.std.specs.Prelude.{◌≡◌, ◌≤◌, Some, None, IfOk, MatchOption, min, option_map};

@@ -5,7 +5,7 @@
 //! tape moves over an item in either direction without a walk from the load point. A command costs time in the bytes
 //! that it moves, and one that spaces over a file in the items that go by.
 //!
-//! Tests: test_system (`tapes`), tests/cases/scripts.
+//! Tests: tests/library/commands.c, tests/cases/scripts.
 #![tactic(auto)]
 
 mod command;

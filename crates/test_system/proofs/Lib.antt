@@ -3,5 +3,3 @@ pub mod Ordinals
 -- Worked channel programs and runs.
 pub mod Rows
 pub mod Runs
--- What the tests of books alone need.
-pub mod Openings

@@ -6,40 +6,14 @@
 #![tactic(auto)]
 
 #[cfg(test)]
-mod areas;
-#[cfg(test)]
-mod devices;
-#[cfg(test)]
-mod disk_images;
-#[cfg(test)]
-mod disks;
-#[cfg(test)]
 mod endings;
 #[cfg(test)]
 mod fixtures;
 #[cfg(test)]
-mod images;
-#[cfg(test)]
 mod jobs;
-#[cfg(test)]
-mod memory;
-#[cfg(test)]
-mod printers;
-#[cfg(test)]
-mod queues;
 #[cfg(test)]
 mod requests;
 #[cfg(test)]
 mod rows;
 #[cfg(test)]
-mod scripts;
-#[cfg(test)]
-mod subchannels;
-#[cfg(test)]
-mod tape_images;
-#[cfg(test)]
-mod tapes;
-#[cfg(test)]
 mod units;
-#[cfg(test)]
-mod verdicts;

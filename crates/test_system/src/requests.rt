@@ -1,12 +1,10 @@
-//! Requests where memory may run out, over storage that is shared, and in storage that is used again. Where control
-//! blocks may be is in tests/cases/mistakes, what a post writes in tests/cases/scripts/posted_areas.posts.
+//! Requests over storage that is shared, and in storage that is used again, where memory may run out.
 
-use crate::memory::TWICE;
+use crate::fixtures::TWICE;
 use io_area::Area;
 use io_images::{Code, Csw};
 use request_piece::{Name, Posted, Request, RequestError};
 use std::alloc::Global;
-use std::process::Abort;
 use std::sync::Arc;
 use std::test::Fail;
 
@@ -20,32 +18,6 @@ fn fixture() -> [u8; 104] {
     bytes[32..40].copy_from_slice(&[1, 0, 0, 0, 2, 0, 3, 4]);
     bytes[48..56].copy_from_slice(&[0x31, 0x00, 0x10, 0x50, 0x40, 0, 0, 5]);
     bytes
-}
-
-/// The request at `iob` of DCB 1, or why there is none; a refusal gives the area back.
-fn issued(rt: &impl Abort, alloc: Global, bytes: &[u8], iob: u32) -> Result<Request, RequestError> {
-    let area = Area::new(alloc, 0x1000, bytes).map_err(|_| RequestError::NoMemory)?;
-    match Request::new(alloc, NAME, 7, 1, iob, area) {
-        Ok(request) => Ok(request),
-        Err((error, area)) => {
-            assert_eq!(rt; area.get(0x1000, bytes.len()), Some(bytes));
-            Err(error)
-        }
-    }
-}
-
-/// If memory runs out for a request, it returns no other reason, the area comes back, and the next request succeeds.
-/// Run it with each allocation made to fail in turn.
-#[test]
-fn requests_without_memory(rt: HostRuntime) -> Result<(), Fail> {
-    let request = match issued(&rt, rt.alloc(), &fixture(), 0x1000) {
-        Err(RequestError::NoMemory) => {
-            issued(&rt, rt.alloc(), &fixture(), 0x1000).or(Err(TWICE))?
-        }
-        made => made?,
-    };
-    assert_eq!(rt; request.area().get(0x1000, 104), Some(fixture().as_slice()));
-    Ok(())
 }
 
 /// A request over storage that is shared holds that storage, and no copy of it, as issued: it refuses a `Request::over`

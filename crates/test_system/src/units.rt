@@ -16,13 +16,10 @@ use std::test::Fail;
 use std::thread;
 use unit_book::UnitBook;
 
-mod arrivals;
-mod new_system;
 mod notices;
 mod side_by_side;
 mod task_purges;
 mod turns;
-mod without_memory;
 
 /// How often a thread looks before it gives up.
 const LOOKS: u32 = 1_000_000;

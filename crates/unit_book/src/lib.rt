@@ -4,7 +4,7 @@
 //! `specs/` says what a trace is and which ones are legal, from `Trace.antt` to `Legal.antt`. `Answers.antt` says what
 //! each call adds and returns.
 //!
-//! Tests: test_system (`units`, `jobs`), tests/cases/scripts, tests/mutants/unit_book.
+//! Tests: tests/library/out_of_memory.c, tests/cases/scenarios, tests/cases/scripts, tests/mutants/unit_book.
 #![tactic(auto)]
 
 mod active;

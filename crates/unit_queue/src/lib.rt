@@ -1,6 +1,6 @@
 //! The requests that wait for a unit, in order of arrival, in a ring whose room is made once.
 //!
-//! Tests: test_system (`queues`).
+//! Tests: tests/library/out_of_memory.c, tests/cases/scenarios.
 #![tactic(auto)]
 
 mod queue;

@@ -1,4 +1,4 @@
-//! Runs that end with requests on their way, and with one that awaits its restart, where memory may run out.
+//! A run that ends with requests on their way, and with one that awaits its restart, where memory may run out.
 
 ghost use Rattle.std.specs.Prelude.{◌≡◌, ◌<◌, IfOk};
 ghost use Rattle.excp_system.specs.Drained.{ArePlaced};
@@ -93,14 +93,12 @@ fn resumed<'r, S: Opened<Disk>, R: Wait + Abort>(
     Err(AllocError)
 }
 
-/// The report of a run that ends behind the calls of its task, or after its unit has begun to serve them; and how often
-/// it was resumed.
+/// The report of a run that ends after its unit has begun to serve the requests of its task; and how often it was resumed.
 fn ended<S: Opened<Disk>, R: Wait + Abort>(
     rt: &R,
     alloc: Global,
     rows: &mut Rows,
     books: Vec<UnitBook<Disk>>,
-    is_served: bool,
 ) -> Result<(Report<Disk>, u32), AllocError>
     requires site { S.rows ≡ site_of rows.old }
     requires fresh { AreFresh rows.old }
@@ -112,19 +110,17 @@ fn ended<S: Opened<Disk>, R: Wait + Abort>(
 {
     let (system, mut tasks, _) = System::<S, Disk>::new(alloc, rows, books)?;
     issue_all(rt, alloc, &mut tasks)?;
-    if is_served {
-        serve(rt, &system)?;
-    }
+    serve(rt, &system)?;
     resumed(rt, alloc, system, tasks)
 }
 
 /// Brings a run to its end, and returns how often it was resumed. Its report lists all requests, and no purge, close or
 /// reset. Each unit's own disk has what was written to it.
-fn expect_ended<R: Wait + Abort + AllocGlobal>(rt: &R, is_served: bool) -> Result<u32, AllocError> {
+fn expect_ended<R: Wait + Abort + AllocGlobal>(rt: &R) -> Result<u32, AllocError> {
     let alloc = rt.alloc();
     let mut rows = Rows::new(alloc, 1, 2, 4, 4)?;
     let books = faulty_disks(alloc, &[fault(1, 0x1000)], 4)?;
-    let (report, times) = ended::<Brand, _>(rt, alloc, &mut rows, books, is_served)?;
+    let (report, times) = ended::<Brand, _>(rt, alloc, &mut rows, books)?;
     for unit in 0..2 {
         let found = listed(alloc, &report, unit)?;
         assert!(rt;
@@ -144,24 +140,13 @@ fn expect_ended<R: Wait + Abort + AllocGlobal>(rt: &R, is_served: bool) -> Resul
     Ok(times)
 }
 
-/// Prints how often a run was resumed, if it was.
-fn tell(rt: &HostRuntime, times: u32) -> Result<(), Fail> {
-    if times > 0 {
-        println!(rt; "resumed {times}")?;
-    }
-    Ok(())
-}
-
-/// A run that ends behind the calls of a task alone: run it with each allocation made to fail in turn, and with each
-/// two. If it passes with some that fail it is to print that it was resumed, once for each at most.
-#[test]
-fn finish_after_excp_without_memory(rt: HostRuntime) -> Result<(), Fail> {
-    tell(&rt, expect_ended(&rt, false)?)
-}
-
 /// A run that ends while a request awaits its restart, one waits, and one is on its way: run it with each allocation
 /// made to fail in turn, and with each two. It rejects the mutants of finish_does_not_purge.
 #[test]
 fn finish_without_memory(rt: HostRuntime) -> Result<(), Fail> {
-    tell(&rt, expect_ended(&rt, true)?)
+    let times = expect_ended(&rt)?;
+    if times > 0 {
+        println!(rt; "resumed {times}")?;
+    }
+    Ok(())
 }

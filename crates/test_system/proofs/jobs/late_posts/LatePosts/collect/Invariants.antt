@@ -1,5 +1,5 @@
 use Rattle.std.proofs.Common.{◌≡◌}
-use Rattle.test_system.proofs.jobs.runs.late_posts.LatePosts.collect.Given as goal
+use Rattle.test_system.proofs.jobs.late_posts.LatePosts.collect.Given as goal
 
 abbrev pub invariant-loop : goal.invariant-loop
 invariant-loop g l = l.client.number ≡ l.fn.client.number

@@ -1,6 +1,6 @@
 use Rattle.std.specs.Prelude.{true}
 use Rattle.excp_system.specs.Opening.{site_of}
-use Rattle.test_system.proofs.jobs.runs.run.Given as goal
+use Rattle.test_system.proofs.jobs.run.Given as goal
 
 -- the site of these rows, whose units begin with these books
 abbrev pub ghosts-tasks_alone-S-Site : goal.ghosts-tasks_alone-S-Site

@@ -1,6 +1,6 @@
 use Rattle.std.proofs.Common.{rules, arith}
 use Rattle.job_run.proofs.Books.{fresh_books}
-use Rattle.test_system.proofs.jobs.runs.rows_and_books.Goals as goal
+use Rattle.test_system.proofs.jobs.rows_and_books.Goals as goal
 
 pub returns-clause-books : goal.returns-clause-books
 returns-clause-books c =
