@@ -6,7 +6,7 @@ A mutant is a file tests/mutants/CRATE/NAME.edit in the form that tests/edit_for
     rejected by: test CRATE NAME       the test of that crate fails; nothing is proved, as by `rt try --test`
     rejected by: run GROUP CASE ..     the cases of tests/run with these words in their names fail on a program with the edit, and
                                        pass on one with none; both are built with nothing proved, as by `./excp --try`
-                                       (of the group costs without AddressSanitizer, under which some bounds let them pass)
+                                       (of the groups costs and refusals without AddressSanitizer)
 
 Kept work is what `rt check` or `rt lib` leaves in crates/CRATE/out. If a crate has none, as after `rt ci` in a new clone,
 the crate is proved first. The crates below have to be built by `rt lib`.
@@ -59,9 +59,9 @@ SHOWN = 90
 ENDLESS = "it does not end"
 
 # The unproved builds: their folders of out/, and the words for tools/prove.py. Cases of costs need the plain one, since under
-# AddressSanitizer their bounds are too slow or too wide.
+# AddressSanitizer their bounds are too slow or too wide, and those of refusals, since it has an allocator of its own.
 BUILDS = {"tried": ["try"], "plain": ["try", "plain"]}
-PLAIN = {"costs": "plain"}
+PLAIN = {"costs": "plain", "refusals": "plain"}
 
 # What a worker keeps of a crate from one mutant to the next: the copy of its kept work, and what was rejected side by side.
 KEPT = {}

@@ -1,7 +1,7 @@
 //! Runs of scripts that need more than a script and what it prints. Runs on rows and books of one. Runs whose tasks wait for
 //! their posts or do not. Runs in which a worker ran out of memory, for some turns or for good.
 
-ghost use Rattle.std.specs.Prelude.{◌≡◌, ◌<◌, ◌≤◌, All, IfOk, vec_len};
+ghost use Rattle.std.specs.Prelude.{◌≡◌, ◌≤◌, All, IfOk, vec_len};
 ghost use Rattle.excp_system.specs.Opening.{AreBooks, AreFresh, site_of};
 ghost use Rattle.job_mount.specs.Requests.{CanBeDone};
 
@@ -75,10 +75,6 @@ const LATE: usize = 5000;
 /// How a run goes.
 #[derive(Clone, Copy)]
 enum Way {
-    /// To its end, and its tasks do not wait for their posts.
-    Unawaited,
-    /// To its end, and its tasks sleep for 64 posts once they have issued their requests.
-    Asleep,
     /// Until its tasks have ended.
     Tasks,
     /// Until its tasks have ended. A worker runs out of memory in turns on unit 0, but in too few of them in a row to end
@@ -163,22 +159,15 @@ impl<'a> Gate for Drill<'a> {
     }
 }
 
-/// What came of a run that could be set up.
-#[derive(PartialEq, Eq, Debug, Drop)]
-enum Outcome {
-    Printed(Vec<u8>),
-    /// How many of its tasks ran out of memory, and how many of their requests and controls the traces tell of.
-    Ended(usize, usize),
-}
-
-/// What comes of a script on these rows and books whose tasks sleep for this many posts at their end, or do not wait if it is 0.
+/// Whether a script on these rows and books prints its posts. Its tasks sleep for this many of them at their end, or do not wait if
+/// it is 0.
 fn late<R: Threads + Wait + Sync + AllocGlobal>(
     rt: &R,
     rows: Rows,
     books: Vec<UnitBook<AnyDevice>>,
     script: &Script,
     posts: u16,
-) -> Result<Outcome, JobError>
+) -> Result<bool, JobError>
     requires fresh { AreFresh rows }
     requires books { AreBooks rows.units books.items }
     requires units { vec_len script.now.set_up.units ≡ rows.units }
@@ -192,17 +181,17 @@ fn late<R: Threads + Wait + Sync + AllocGlobal>(
         return Err(JobError::NoMemory);
     };
     let run = ended(alloc, report, outcomes)?;
-    printed(alloc, script, &run.tasks)
+    prints_posts(alloc, script, &run.tasks)
 }
 
-/// What comes of the tasks of a script on these rows and books.
+/// How many tasks of a script on these rows and books ran out of memory, and how many of their requests the traces tell of.
 fn tasks_alone<S: Opened<AnyDevice> + Send + Sync, R: Threads + Wait + Sync + AllocGlobal>(
     rt: &R,
     rows: &mut Rows,
     books: Vec<UnitBook<AnyDevice>>,
     script: &Script,
     way: Way,
-) -> Result<Outcome, JobError>
+) -> Result<(usize, usize), JobError>
     requires site { S.rows ≡ site_of rows.old }
     requires fresh { AreFresh rows.old }
     requires books { AreBooks S.rows.units books.items }
@@ -224,7 +213,7 @@ fn tasks_alone<S: Opened<AnyDevice> + Send + Sync, R: Threads + Wait + Sync + Al
         JobError::NoMemory,
     ))?;
     let (_, outcomes) = parted(runners, room);
-    Ok(Outcome::Ended(how_many_short(outcomes)?, told(rt, &system, units)?))
+    Ok((how_many_short(outcomes)?, told(rt, &system, units)?))
 }
 
 /// A worker runs out of memory in `turns` turns on unit 0.
@@ -279,15 +268,15 @@ fn how_many_short(outcomes: Vec<Result<TaskEnd<()>, TaskError>>) -> Result<usize
     Ok(short)
 }
 
-/// What is printed of the requests of each task of a script.
-fn printed(alloc: Global, script: &Script, tasks: &[TaskEnd<()>]) -> Result<Outcome, JobError> {
+/// Whether the posts are printed of these tasks of a script.
+fn prints_posts(alloc: Global, script: &Script, tasks: &[TaskEnd<()>]) -> Result<bool, JobError> {
     let mut text = Vec::new(alloc);
     write(&script.commands, tasks, &mut text)?;
-    Ok(Outcome::Printed(text))
+    Ok(text.as_slice() == POSTS.as_bytes())
 }
 
-/// How many requests and controls of tasks the traces of the units tell of. Their books have room for the requests in
-/// the intake rows, which arrive first.
+/// How many requests the traces of the units tell of. Their books have room for the requests in the intake rows, which
+/// arrive first.
 fn told<S: Opened<AnyDevice>, R: Wait>(
     rt: &R,
     system: &System<'_, S, AnyDevice>,
@@ -302,7 +291,7 @@ fn told<S: Opened<AnyDevice>, R: Wait>(
             state.take(rt)?;
         }
         for entry in state.book().trace() {
-            if let Entry::Arrive(_) | Entry::Purge(..) | Entry::Close(_) | Entry::Reset(_) = entry {
+            if let Entry::Arrive(_) = entry {
                 count = count.saturating_add(1);
             }
         }
@@ -332,53 +321,63 @@ fn rows_and_books(
 }
 
 /// The script of all runs.
-fn script(alloc: Global) -> Result<Script, JobError> {
+fn script(alloc: Global) -> Result<Script, JobError>
+    ensures tasks { IfOk result (λ script. (1 ≤ script.set_up.tasks) × (script.set_up.tasks ≤ 64)) }
+    ensures units { IfOk result (λ script. (1 ≤ vec_len script.set_up.units) × (vec_len script.set_up.units ≤ 64)) }
+{
     let mut text = Vec::from_slice(alloc, SET_UP.as_bytes())?;
     text.extend_from_slice(AREAS.as_bytes())?;
     text.extend_from_slice(EXCPS.as_bytes())?;
     Script::parse(alloc, &text)
 }
 
-/// What comes of the script, with rows and books of this room.
+/// Whether the script prints its posts with rows and books of this room, if its tasks sleep for this many of them at their end, or
+/// do not wait if it is 0.
+fn prints<R: Threads + Wait + Sync + AllocGlobal>(
+    rt: &R,
+    room: usize,
+    posts: u16,
+) -> Result<bool, JobError>
+    requires some { 1 ≤ room }
+    requires few { room ≤ 65536 }
+{
+    let script = script(rt.alloc())?;
+    // its requests can be made
+    books(rt.alloc(), &script, Vec::new(rt.alloc()), room)?;
+    let (rows, books) = rows_and_books(rt.alloc(), &script, room)?;
+    late(rt, rows, books, &script, posts)
+}
+
+/// How many tasks of the script ran out of memory, and how many of their requests the traces tell of, with rows and books of this
+/// room.
 fn run<R: Threads + Wait + Sync + AllocGlobal>(
     rt: &R,
     room: usize,
     way: Way,
-) -> Result<Outcome, JobError>
+) -> Result<(usize, usize), JobError>
     requires some { 1 ≤ room }
     requires few { room ≤ 65536 }
 {
-    let alloc = rt.alloc();
-    let script = script(alloc)?;
+    let script = script(rt.alloc())?;
     // its requests can be made
-    books(alloc, &script, Vec::new(alloc), room)?;
-    let (mut rows, books) = rows_and_books(alloc, &script, room)?;
-    match way {
-        Way::Unawaited => late(rt, rows, books, &script, 0),
-        Way::Asleep => late(rt, rows, books, &script, 64),
-        _ => tasks_alone::<Brand, R>(rt, &mut rows, books, &script, way),
-    }
+    books(rt.alloc(), &script, Vec::new(rt.alloc()), room)?;
+    let (mut rows, books) = rows_and_books(rt.alloc(), &script, room)?;
+    tasks_alone::<Brand, R>(rt, &mut rows, books, &script, way)
 }
 
 /// A task has collected all its posts when it ends; where tasks do not, the end of the run gives them.
 #[test]
 fn tasks_wait_for_their_posts(rt: HostRuntime) -> Result<(), Fail> {
-    let outcome = run(&rt, 8, Way::Tasks)?;
-    assert_eq!(rt; outcome, Outcome::Ended(0, 12));
-    let outcome = run(&rt, 8, Way::Unawaited)?;
-    let posts = Vec::from_slice(rt.alloc(), POSTS.as_bytes())?;
-    assert_eq!(rt; outcome, Outcome::Printed(posts));
+    assert!(rt; run(&rt, 8, Way::Tasks)? == (0, 12));
+    assert!(rt; prints(&rt, 8, 0)?);
     Ok(())
 }
 
 /// A task that sleeps for 64 posts wakes with the last that it awaits, and if its post row is full.
 #[test]
 fn tasks_sleep_for_several_posts(rt: HostRuntime) -> Result<(), Fail> {
-    let posts = Vec::from_slice(rt.alloc(), POSTS.as_bytes())?;
-    let printed = Outcome::Printed(posts);
     for room in [1, 8] {
-        let outcome = run(&rt, room, Way::Asleep)?;
-        assert!(rt; outcome == printed);
+        assert!(rt; prints(&rt, room, 64)?);
     }
     Ok(())
 }
@@ -386,8 +385,7 @@ fn tasks_sleep_for_several_posts(rt: HostRuntime) -> Result<(), Fail> {
 /// A worker runs out of memory in one turn less than lasts, and then now and then: the run stays whole.
 #[test]
 fn run_stays_whole_if_memory_comes_back(rt: HostRuntime) -> Result<(), Fail> {
-    let outcome = run(&rt, 8, Way::Brief)?;
-    assert_eq!(rt; outcome, Outcome::Ended(0, 12));
+    assert!(rt; run(&rt, 8, Way::Brief)? == (0, 12));
     Ok(())
 }
 
@@ -402,10 +400,8 @@ fn want_of_memory_ends_the_tasks(rt: HostRuntime) -> Result<(), Fail> {
         Way::Raised,
         Way::Alone,
     ] {
-        let outcome = run(&rt, 8, way)?;
-        assert_eq!(rt; outcome, Outcome::Ended(2, 12));
+        assert!(rt; run(&rt, 8, way)? == (2, 12));
     }
-    let outcome = run(&rt, 1, Way::Alone)?;
-    assert_eq!(rt; outcome, Outcome::Ended(2, 2));
+    assert!(rt; run(&rt, 1, Way::Alone)? == (2, 2));
     Ok(())
 }

@@ -7,7 +7,7 @@ use super::*;
 use std::mem::swap;
 
 /// Why a run does not end, at first and when it is resumed, and what is left of it.
-#[derive(PartialEq, Eq, Debug, Drop)]
+#[derive(Drop)]
 struct Left {
     causes: [Cause; 2],
     /// The numbers of the units, in the order of their locks.
@@ -81,11 +81,8 @@ fn swapped_units_are_mixed(rt: HostRuntime) -> Result<(), Fail> {
     let mut rows = Rows::new(rt.alloc(), 1, 2, 1, 1)?;
     let books = disks(rt.alloc(), 1)?;
     let left = left_of::<Brand, _>(&rt, rt.alloc(), &mut rows, books)?;
-    let expected = Left {
-        causes: [Cause::Mixed, Cause::Mixed],
-        units: [1, 0].to_vec(rt.alloc())?,
-        tasks: 1,
-    };
-    assert_eq!(rt; left, Some(expected));
+    let left = left.ok_or("the run ends")?;
+    assert!(rt; left.causes == [Cause::Mixed, Cause::Mixed] && left.tasks == 1);
+    assert!(rt; left.units.as_slice() == [1, 0].as_slice());
     Ok(())
 }

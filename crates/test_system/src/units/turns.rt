@@ -1,11 +1,11 @@
-//! How many commands a turn of a worker runs.
+//! How many commands a turn of a channel worker runs.
 
 ghost use Rattle.std.specs.Prelude.{◌≡◌, ◌<◌};
 ghost use Rattle.excp_system.specs.Opening.{AreBooks, AreFresh, site_of};
 
 use super::*;
 use crate::fixtures::{READ_RECORD, issue_over};
-use excp_system::{Gate, Point, Stop, serve, serve_channel};
+use excp_system::{Gate, Point, Stop, serve_channel};
 use std::alloc::Global;
 use unit_book::Entry;
 
@@ -43,33 +43,29 @@ fn commands_run<S: Opened<Disk>, R: Wait>(rt: &R, system: &System<'_, S, Disk>) 
     }
 }
 
-/// How many commands of a program without end a turn of each worker runs: of a channel alone, and of one that may have
-/// handlers too.
-fn turns_of<'r, S: Opened<Disk>, R: Wait>(
+/// How many commands of a program without end a turn of a channel worker runs.
+fn turn_of<'r, S: Opened<Disk>, R: Wait>(
     rt: &R,
     alloc: Global,
     system: &System<'r, S, Disk>,
     tasks: &mut [Task<'r, S>],
-) -> Result<[Option<u32>; 2], AllocError>
+) -> Result<Option<u32>, AllocError>
     requires { 0 < S.rows.units }
 {
     let task = tasks.first_mut().ok_or(AllocError)?;
     issue_over(rt, alloc, task, 0, &endless())?;
     let gate = OneTurn { stop: Stop::new() };
     serve_channel(rt, system, &[0], &gate, &gate.stop);
-    let of_channel = commands_run(rt, system);
-    let gate = OneTurn { stop: Stop::new() };
-    serve(rt, system, &[0], &mut [], &gate, &gate.stop);
-    Ok([of_channel, commands_run(rt, system)])
+    Ok(commands_run(rt, system))
 }
 
-/// The turns of a system over these rows and books.
-fn turns<S: Opened<Disk>, R: Wait>(
+/// The turn on a system over these rows and books.
+fn turn<S: Opened<Disk>, R: Wait>(
     rt: &R,
     alloc: Global,
     rows: &mut Rows,
     books: Vec<UnitBook<Disk>>,
-) -> Result<[Option<u32>; 2], AllocError>
+) -> Result<Option<u32>, AllocError>
     requires site { S.rows ≡ site_of rows.old }
     requires fresh { AreFresh rows.old }
     requires books { AreBooks S.rows.units books.items }
@@ -77,14 +73,14 @@ fn turns<S: Opened<Disk>, R: Wait>(
     requires two { S.rows.units ≡ 2 }
 {
     let (system, mut tasks, _) = System::<S, Disk>::new(alloc, rows, books)?;
-    turns_of(rt, alloc, &system, tasks.as_mut_slice())
+    turn_of(rt, alloc, &system, tasks.as_mut_slice())
 }
 
 #[test]
 fn turns_have_a_number_of_commands(rt: HostRuntime) -> Result<(), Fail> {
     let mut rows = Rows::new(rt.alloc(), 1, 2, 1, 1)?;
     let books = disks(rt.alloc(), 1)?;
-    let turns = turns::<Brand, _>(&rt, rt.alloc(), &mut rows, books)?;
-    assert_eq!(rt; turns, [Some(16), Some(64)]);
+    let turn = turn::<Brand, _>(&rt, rt.alloc(), &mut rows, books)?;
+    assert!(rt; turn == Some(16));
     Ok(())
 }
