@@ -1,4 +1,4 @@
-/* excp.c: the functions of excp.h. Each tests its pointers and calls the export of crates/excp_c that has its name behind `excp_call_`.
+/* excp.c: the functions of excp.h. Each tests its pointers and calls its export of crates/excp_c.
  * Pointers are tested in C, since a reference of Rattle is never NULL. The caller holds the handle, a mark and a pointer: a table of
  * handles would need a mutable global, which the kit lacks. Each export tests the mark, which a zeroed or freed handle lacks. Media are
  * put piece by piece, because a slice of structs with pointers cannot be checked.
@@ -25,18 +25,12 @@ uint32_t excp_call_mount_aws(SITE, SLICE(image), uint64_t bytes, const excp_room
 uint32_t excp_call_open(SITE, uint16_t unit, uint8_t method, SLICE(extents), uint16_t *dcb);
 uint32_t excp_call_issue(SITE, uint16_t task, uint16_t unit, uint16_t dcb, uint32_t iob, uint32_t base, SLICE(storage), uint64_t *number);
 uint32_t excp_call_take(SITE, uint16_t unit, excp_answer *answer);
-uint32_t excp_call_start(SITE, uint16_t unit, excp_answer *answer);
-uint32_t excp_call_run(SITE, uint16_t unit, uint32_t max_commands, excp_answer *answer);
-uint32_t excp_call_interrupt(SITE, uint16_t unit, excp_answer *answer);
+uint32_t excp_call_step(SITE, uint16_t unit, uint8_t kind, uint32_t number, uint8_t mode, excp_answer *answer);
 uint32_t excp_call_deliver(SITE, uint16_t unit, excp_answer *answer);
 uint32_t excp_call_serve(SITE, uint16_t unit, uint32_t max_commands, excp_served *served);
 uint32_t excp_call_settle(SITE, uint16_t unit);
 uint32_t excp_call_peek_post(SITE, uint16_t task, excp_post *post);
 uint32_t excp_call_next_post(SITE, uint16_t task, excp_post *post, ROOM(storage));
-uint32_t excp_call_purge(SITE, uint16_t unit, uint16_t dcb, uint8_t mode, excp_answer *answer);
-uint32_t excp_call_purge_task(SITE, uint16_t unit, uint16_t task, uint8_t mode, excp_answer *answer);
-uint32_t excp_call_close(SITE, uint16_t unit, uint16_t dcb, excp_answer *answer);
-uint32_t excp_call_reset(SITE, uint16_t unit, uint16_t dcb);
 uint32_t excp_call_look(SITE, uint16_t unit, excp_unit_state *state);
 uint32_t excp_call_look_active(SITE, uint16_t unit, excp_active_request *active);
 uint32_t excp_call_look_place(SITE, uint16_t unit, excp_place *place);
@@ -61,8 +55,13 @@ uint32_t excp_call_channel_halt(SITE, uint32_t channel, uint32_t *code);
 uint32_t excp_call_checkpoint(SITE, uint16_t unit);
 
 /* A function whose pointers must not be null, and what it returns if none is. */
-#define CALL(name, parameters, pointers, ...) \
-    excp_status excp_##name parameters { return (pointers) ? (excp_status)excp_call_##name(__VA_ARGS__) : EXCP_NULL_POINTER; }
+#define CALL_AS(name, export, parameters, pointers, ...) \
+    excp_status excp_##name parameters { return (pointers) ? (excp_status)excp_call_##export(__VA_ARGS__) : EXCP_NULL_POINTER; }
+#define CALL(name, parameters, pointers, ...) CALL_AS(name, name, parameters, pointers, __VA_ARGS__)
+
+/* The steps of a unit, by the numbers of `step_from_c` in crates/excp_c. */
+enum { START, RUN, INTERRUPT, PURGE, PURGE_TASK, CLOSE, RESET };
+#define STEP(name, parameters, kind, number, mode) CALL_AS(name, step, parameters, site && answer, site, unit, kind, number, mode, answer)
 
 /* Whether bytes have a pointer or no length, and then a pointer that is not null. Nothing is read or written through `no_byte`. */
 static uint8_t no_byte;
@@ -143,21 +142,27 @@ CALL(open, (SITE, uint16_t unit, uint8_t method, const uint8_t *extents, size_t 
 CALL(issue, (SITE, uint16_t task, uint16_t unit, uint16_t dcb, uint32_t iob, uint32_t base, const uint8_t *storage, size_t length,
      uint64_t *number), site && IS_SLICE(storage, length) && number, site, task, unit, dcb, iob, base, BYTES(storage, length), number)
 CALL(take, (SITE, uint16_t unit, excp_answer *answer), site && answer, site, unit, answer)
-CALL(start, (SITE, uint16_t unit, excp_answer *answer), site && answer, site, unit, answer)
-CALL(run, (SITE, uint16_t unit, uint32_t max_commands, excp_answer *answer), site && answer, site, unit, max_commands, answer)
-CALL(interrupt, (SITE, uint16_t unit, excp_answer *answer), site && answer, site, unit, answer)
 CALL(deliver, (SITE, uint16_t unit, excp_answer *answer), site && answer, site, unit, answer)
+
+STEP(start, (SITE, uint16_t unit, excp_answer *answer), START, 0, 0)
+STEP(run, (SITE, uint16_t unit, uint32_t max_commands, excp_answer *answer), RUN, max_commands, 0)
+STEP(interrupt, (SITE, uint16_t unit, excp_answer *answer), INTERRUPT, 0, 0)
+STEP(purge, (SITE, uint16_t unit, uint16_t dcb, uint8_t mode, excp_answer *answer), PURGE, dcb, mode)
+STEP(purge_task, (SITE, uint16_t unit, uint16_t task, uint8_t mode, excp_answer *answer), PURGE_TASK, task, mode)
+STEP(close, (SITE, uint16_t unit, uint16_t dcb, excp_answer *answer), CLOSE, dcb, 0)
+
+excp_status excp_reset(SITE, uint16_t unit, uint16_t dcb)
+{
+    excp_answer none = {0};
+    return site ? (excp_status)excp_call_step(site, unit, RESET, dcb, 0, &none) : EXCP_NULL_POINTER;
+}
+
 CALL(serve, (SITE, uint16_t unit, uint32_t max_commands, excp_served *served), site && served, site, unit, max_commands, served)
 CALL(settle, (SITE, uint16_t unit), site, site, unit)
 
 CALL(peek_post, (SITE, uint16_t task, excp_post *post), site && post, site, task, post)
 CALL(next_post, (SITE, uint16_t task, excp_post *post, uint8_t *storage, size_t room), site && post && IS_SLICE(storage, room), site,
      task, post, BYTES(storage, room))
-
-CALL(purge, (SITE, uint16_t unit, uint16_t dcb, uint8_t mode, excp_answer *answer), site && answer, site, unit, dcb, mode, answer)
-CALL(purge_task, (SITE, uint16_t unit, uint16_t task, uint8_t mode, excp_answer *answer), site && answer, site, unit, task, mode, answer)
-CALL(close, (SITE, uint16_t unit, uint16_t dcb, excp_answer *answer), site && answer, site, unit, dcb, answer)
-CALL(reset, (SITE, uint16_t unit, uint16_t dcb), site, site, unit, dcb)
 
 CALL(look, (SITE, uint16_t unit, excp_unit_state *state), site && state, site, unit, state)
 CALL(look_active, (SITE, uint16_t unit, excp_active_request *active), site && active, site, unit, active)

@@ -20,7 +20,7 @@ ERROR = re.compile(r"-> (?:(?P<io>io::|Io)?Result<(?P<types>.*)>)$")
 
 # What a call rejects whose comment has no such sentence, by the type of its error.
 BY_TYPE = {"AllocError": "out of memory", "AllocFailed": "out of memory: it hands back what it got", "io": "a failed write"}
-BY_TYPE |= {"FaultName": "the first fault of the line", "Refusal": "the first fault of the line; out of memory"}
+BY_TYPE |= {"FaultName": "the first fault of the line", "LineError": "the first fault of the line; out of memory"}
 
 
 def libraries():

@@ -43,6 +43,21 @@ FIELD = re.compile(r"^    pub (\w+): (\w+),", re.M)
 STATUS = re.compile(r"^    EXCP_(\w+) = (\d+)", re.M)
 REFUSAL = re.compile(r"^status_in_c refusals\.(\w+) = (\d+)$", re.M)
 
+STEP_CALL = re.compile(r"^STEP\((\w+), \(([^)]*)\), (\w+), (\w+), (\w+)\)$", re.M)
+STEP_RESET = re.compile(r"excp_call_step\(site, unit, (\w+), (\w+), (\w+), &none\)")
+STEP_FORM = re.compile(r"(\d) => Some\((?:UnitStep|Control)::(\w+(?:\(Scope::\w+)?)")
+
+# The functions that make a step of a unit: the form of the step, its number and its mode.
+STEPS = {
+    "start": ("Start", "0", "0"),
+    "run": ("Run", "max_commands", "0"),
+    "interrupt": ("Interrupt", "0", "0"),
+    "purge": ("Purge(Scope::Dcb", "dcb", "mode"),
+    "purge_task": ("Purge(Scope::Task", "task", "mode"),
+    "close": ("Close", "dcb", "0"),
+    "reset": ("Reset", "dcb", "0"),
+}
+
 # The statuses of the exports that no refusal of a site has.
 OWN_STATUSES = {"OK": 0, "NULL_POINTER": 2, "NO_SITE": 3, "SITE_IN_USE": 4}
 
@@ -90,13 +105,31 @@ def differing(one, other):
 
 
 def functions_agree():
-    """Each function of the header has a prototype in excp.c and an export with the same types, and there is no other."""
+    """Each function of the header has a prototype in excp.c and an export with the same types, but for those that make a step of a
+    unit: all of these call one export. There is no other."""
     header = {name.removeprefix("excp_"): of_c(parameters) for name, parameters in FUNCTION.findall(read(HEADER))}
     prototypes = {name: of_c(parameters) for name, parameters in PROTOTYPE.findall(read(SOURCE))}
     exports = {name: of_export(parameters) for name, parameters in EXPORT.findall(sources())}
     require(len(header) > 30, f"excp.h: {len(header)} functions")
-    require(header == prototypes, f"excp.c declares other exports than excp.h has functions: {differing(header, prototypes)}")
-    require(header == exports, f"crates/excp_c has other exports than excp.h has functions: {differing(header, exports)}")
+    require(prototypes == exports, f"excp.c and crates/excp_c have other exports: {differing(prototypes, exports)}")
+    own = {name: types for name, types in header.items() if name not in STEPS}
+    exports.pop("step")
+    require(own == exports, f"excp.h has other functions than there are exports: {differing(own, exports)}")
+
+
+def steps_agree():
+    """Each function of the header that makes a step of a unit passes its own parameters and the number of its kind, as the exports
+    have it."""
+    header, source, exports = dict(FUNCTION.findall(read(HEADER))), read(SOURCE), sources()
+    kinds = {name: number for number, name in enumerate(re.search(r"^enum \{ ([A-Z_, ]+) \};", source, re.M)[1].split(", "))}
+    numbers = {form: int(number) for number, form in STEP_FORM.findall(exports)}
+    require(len(numbers) == len(STEPS), f"the exports have the steps {numbers}")
+    calls = {name: (parameters, kind, number, mode) for name, parameters, kind, number, mode in STEP_CALL.findall(source)}
+    calls["reset"] = ("SITE, uint16_t unit, uint16_t dcb", *STEP_RESET.search(source).groups())
+    for name, (form, number, mode) in STEPS.items():
+        parameters = header[f"excp_{name}"].replace("excp_site *site", "SITE")
+        kind = next(it for it, at in kinds.items() if at == numbers[form])
+        require(calls.get(name) == (parameters, kind, number, mode), f"excp_{name}: {calls.get(name)}, not {kind}, {number}, {mode}")
 
 
 def structs_agree():
@@ -316,6 +349,7 @@ def cases(setup):
     yield Case("the C compiler", needs_a_compiler, "tools/library.py")
     yield Case("exports with nothing proved", unproved_call_each, "tools/unproved_exports.py")
     yield Case("functions", functions_agree, "c/excp.h")
+    yield Case("steps", steps_agree, "c/excp.h")
     yield Case("structs", structs_agree, "c/excp.h")
     yield Case("statuses", statuses_agree, "c/excp.h")
     yield Case("constants of blocks", constants_agree, "c/excp_blocks.h, by docs/SPECIFICATION.md")

@@ -16,26 +16,31 @@ use Rattle.line_printer.specs.PrinterLaws.{printer_lawful}
 use Rattle.any_device.specs.declared.device.AnyDevice.{AnyDevice}
 use Rattle.any_device.specs.declared.device.AnyDevice.TheVariants.{Disk, Tape, Printer}
 
+-- the kind of a device
 abbrev pub kind_of : AnyDevice → Kind
 kind_of (Disk d) = disk.kind d
 kind_of (Tape t) = tape.kind t
 kind_of (Printer p) = printer.kind p
 
+-- how many cylinders a device has
 abbrev pub cylinders_of : AnyDevice → ℕ
 cylinders_of (Disk d) = disk.cylinders d
 cylinders_of (Tape t) = tape.cylinders t
 cylinders_of (Printer p) = printer.cylinders p
 
+-- how many heads a device has
 abbrev pub heads_of : AnyDevice → ℕ
 heads_of (Disk d) = disk.heads d
 heads_of (Tape t) = tape.heads t
 heads_of (Printer p) = printer.heads p
 
+-- the direction of the data of a command
 abbrev pub flow_of : AnyDevice → ℕ → Flow
 flow_of (Disk d) command = disk.flow d command
 flow_of (Tape t) command = tape.flow t command
 flow_of (Printer p) command = printer.flow p command
 
+-- a device after a seek and a file mask
 abbrev pub prefixed : AnyDevice → Seek → ℕ → AnyDevice
 prefixed (Disk d) seek mask = Disk (disk.prefix d seek mask)
 prefixed (Tape t) seek mask = Tape (tape.prefix t seek mask)
@@ -45,6 +50,7 @@ prefixed (Printer p) seek mask = Printer (printer.prefix p seek mask)
 abbrev pub as_unit : {D : Type 0} → (D → AnyDevice) → Outcome D → Outcome AnyDevice
 as_unit kind outcome = record { acted = outcome.acted; device = kind outcome.device; bytes = outcome.bytes }
 
+-- a device after a command, by the meaning of its kind
 abbrev pub acted_on : AnyDevice → ℕ → List ℕ → Outcome AnyDevice
 acted_on (Disk d) command given = as_unit Disk (disk.act d command given)
 acted_on (Tape t) command given = as_unit Tape (tape.act t command given)

@@ -8,7 +8,7 @@ use Rattle.std.specs.List.{list_all}
 use Rattle.std.specs.Fmt.{option_append}
 use Rattle.std.specs.Io.KnownBytes.{Consumes}
 use Rattle.aws_tape.specs.declared.chunk.Header.{Header}
-use Rattle.aws_tape.specs.declared.image.Image.{Image}
+use Rattle.aws_tape.specs.declared.image.TapeImage.{TapeImage}
 use Rattle.aws_tape.specs.declared.fault.AwsError.{AwsError}
 use Rattle.aws_tape.specs.declared.fault.AwsFault.{AwsFault}
 use Rattle.aws_tape.specs.declared.fault.AwsFault.TheVariants as fault
@@ -132,12 +132,12 @@ left_chunk first at next (Some image) (Some rest) (Some left) offset len l r =
     ∙ ap (λ (n : ℕ). read_from (length (drop (6 + n) rest)) (offset + (6 + n)) next (drop (6 + n) rest)) (sym same)
     ∙ ap (λ (bytes : List ℕ). read_from (length bytes) (offset + (6 + len)) next bytes) (sym r.3)
 
-answered : (first : Between) (image : List ℕ) (result : Result Image AwsError) → read_from (length image) 0 first image ≡ result
+answered : (first : Between) (image : List ℕ) (result : Result TapeImage AwsError) → read_from (length image) 0 first image ≡ result
     → ReadsChunks first (Some image) result
 answered first image (Ok x) is = is
 answered first image (Err e) is = λ (known : IsOfImage e.fault). is
 
-pub left_end : (first at next : Between) (old mid new : Option (List ℕ)) (offset : ℕ) (result : Result Image AwsError)
+pub left_end : (first at next : Between) (old mid new : Option (List ℕ)) (offset : ℕ) (result : Result TapeImage AwsError)
     → IsLeft first old mid offset at → ReadsChunk at next mid new (Ok None) → result ≡ at_offset offset (image_end next) → ReadsChunks first old result
 left_end first at next None mid new offset result l r is = tt
 left_end first at next (Some image) None new offset result l r is = absurd l
@@ -178,22 +178,23 @@ pub loads_fake : (bytes : ℕ) (old new : Option (List ℕ)) (first : List ℕ) 
 loads_fake bytes None new first count len f fake = tt
 loads_fake bytes (Some image) None first count len f fake = absurd f.consumed
 loads_fake bytes (Some image) (Some left) first count len f fake = λ (known : IsOfImage fault.FakeTape).
-    let found : Result Image AwsError = Err (record { fault = fault.FakeTape; offset = 0 }) in
+    let found : Result TapeImage AwsError = Err (record { fault = fault.FakeTape; offset = 0 }) in
     let all = read_from (length image) 0 (start (record { size = bytes; items = [] })) image in
     ap (λ (b : Bool). cond b found all) (sniffed image left first count len f.consumed f.within f.end ∙ fake)
 
-loads_plain : (bytes : ℕ) (image : List ℕ) (result : Result Image AwsError) → is_fake_tape image ≡ false
+loads_plain : (bytes : ℕ) (image : List ℕ) (result : Result TapeImage AwsError) → is_fake_tape image ≡ false
     → ReadsChunks (start (record { size = bytes; items = [] })) (Some image) result → Loads bytes (Some image) result
 loads_plain bytes image (Ok x) plain read =
-    let found : Result Image AwsError = Err (record { fault = fault.FakeTape; offset = 0 }) in
+    let found : Result TapeImage AwsError = Err (record { fault = fault.FakeTape; offset = 0 }) in
     let all = read_from (length image) 0 (start (record { size = bytes; items = [] })) image in
     ap (λ (b : Bool). cond b found all) plain ∙ read
 loads_plain bytes image (Err e) plain read = λ (known : IsOfImage e.fault).
-    let found : Result Image AwsError = Err (record { fault = fault.FakeTape; offset = 0 }) in
+    let found : Result TapeImage AwsError = Err (record { fault = fault.FakeTape; offset = 0 }) in
     let all = read_from (length image) 0 (start (record { size = bytes; items = [] })) image in
     ap (λ (b : Bool). cond b found all) plain ∙ read known
 
-pub loads_rest : (bytes : ℕ) (old new : Option (List ℕ)) (first : List ℕ) (count : ℕ) (result : Result Image AwsError) → length first ≡ 12
+pub loads_rest : (bytes : ℕ) (old new : Option (List ℕ)) (first : List ℕ) (count : ℕ) (result : Result TapeImage AwsError) →
+    length first ≡ 12
     → Fills old new first count → is_fake_tape (take count first) ≡ false
     → ReadsChunks (start (record { size = bytes; items = [] })) (option_append (Some (take count first)) new) result → Loads bytes old result
 loads_rest bytes None new first count result len f plain read = tt

@@ -11,7 +11,7 @@ use Rattle.tape_unit.specs.Item.{Item, tape_mark, block, is_item, content_of}
 use Rattle.tape_unit.specs.Reel.{ReelState}
 use Rattle.tape_unit.specs.Recording.{with_item, takes_item}
 use Rattle.aws_tape.specs.declared.layout.Part.{Part}
-use Rattle.aws_tape.specs.declared.image.Image.{Image}
+use Rattle.aws_tape.specs.declared.image.TapeImage.{TapeImage}
 use Rattle.aws_tape.specs.declared.chunk.Header.{Header}
 use Rattle.aws_tape.specs.declared.chunk.ChunkKind.{ChunkKind}
 use Rattle.aws_tape.specs.declared.chunk.ChunkKind.TheVariants.{Mark, Whole, First, Middle, Last}
@@ -43,7 +43,7 @@ abbrev and_part : ReelState → List Part → List ℕ → List Part
 and_part reel layout content = layout ++ part_of reel content ∷ []
 
 -- between two items: items with a layout, whose image the bytes are
-pub record Closed (reel : ReelState) (layout : List Part) (previous : ℕ) (rest : List ℕ) (image : Image) : Type 0 where
+pub record Closed (reel : ReelState) (layout : List Part) (previous : ℕ) (rest : List ℕ) (image : TapeImage) : Type 0 where
   pub items : List Item
   pub parts : List Part
   pub recorded : image.tape.items ≡ reel.items ++ items
@@ -53,7 +53,7 @@ pub record Closed (reel : ReelState) (layout : List Part) (previous : ℕ) (rest
   pub spelled : rest ≡ items_image parts (length reel.items) previous items
 
 -- in a block: the chunks to its end, and then the same
-pub record Opened (reel : ReelState) (layout : List Part) (bytes : List ℕ) (previous : ℕ) (rest : List ℕ) (image : Image) : Type 0 where
+pub record Opened (reel : ReelState) (layout : List Part) (bytes : List ℕ) (previous : ℕ) (rest : List ℕ) (image : TapeImage) : Type 0 where
   pub content : List ℕ
   pub part : Part
   pub own : List Part
@@ -65,7 +65,7 @@ pub record Opened (reel : ReelState) (layout : List Part) (bytes : List ℕ) (pr
   pub others : Closed (with_item reel (block (bytes ++ content))) (layout ++ (part ∷ own)) (last_length previous (part ∷ own)) left image
 
 -- what is left leads to the image: its bytes are those of a layout
-abbrev pub Kept : Between → List ℕ → Image → Type 0
+abbrev pub Kept : Between → List ℕ → TapeImage → Type 0
 Kept at rest image = elim at.is_open [
   | true ↦ Opened at.reel at.layout at.block at.previous rest image
   | false ↦ Closed at.reel at.layout at.previous rest image
@@ -87,7 +87,8 @@ ended at next is =
     )
 
 -- the items after one more
-after_item : (x : Item) (own : List Part) (reel : ReelState) (layout : List Part) (previous : ℕ) (bytes left rest : List ℕ) (image : Image)
+after_item : (x : Item) (own : List Part) (reel : ReelState) (layout : List Part) (previous : ℕ) (bytes left rest : List ℕ)
+    (image : TapeImage)
     → AllAt (length reel.items) own → is_item x ≡ true → bytes ≡ item_image previous own x → rest ≡ bytes ++ left
     → Closed (with_item reel x) (layout ++ own) (last_len previous own x) left image → Closed reel layout previous rest image
 unfolding Laid
@@ -108,7 +109,7 @@ after_item x own reel layout previous bytes left rest image here item is whole k
           ∙ sym (laid_step own k.parts place previous x k.items here laid);
     }
 
-after_one : (x : Item) (reel : ReelState) (layout : List Part) (previous : ℕ) (bytes left rest : List ℕ) (image : Image)
+after_one : (x : Item) (reel : ReelState) (layout : List Part) (previous : ℕ) (bytes left rest : List ℕ) (image : TapeImage)
     → is_item x ≡ true → bytes ≡ item_image previous [] x → rest ≡ bytes ++ left
     → Closed (with_item reel x) layout (last_len previous [] x) left image → Closed reel layout previous rest image
 unfolding AllAt
@@ -152,7 +153,7 @@ more_chunks first previous place part own content more left after rest whole oth
     ∙ ap (λ (l : List ℕ). l ++ after) (sym chunks)
 
 closed_chunk : (kind : ChunkKind) (reel : ReelState) (layout : List Part) (previous : ℕ) (next : Between) (content left rest : List ℕ)
-    (image : Image)
+    (image : TapeImage)
     → rest ≡ (header_of (length content) previous (byte_of kind) ++ content) ++ left
     → in_place kind (length content) 0 false ≡ Ok (placed_at kind (length content))
     → after_data (with_data (between reel layout previous) content) kind ≡ Ok next
@@ -196,7 +197,7 @@ closed_chunk Middle reel layout previous next content left rest image whole plac
 closed_chunk Last reel layout previous next content left rest image whole placed done k = absurd (cc)
 
 opened_chunk : (kind : ChunkKind) (reel : ReelState) (layout : List Part) (bytes : List ℕ) (previous : ℕ) (next : Between)
-    (content left rest : List ℕ) (image : Image)
+    (content left rest : List ℕ) (image : TapeImage)
     → rest ≡ (header_of (length content) previous (byte_of kind) ++ content) ++ left
     → in_place kind (length content) (length bytes) true ≡ Ok (placed_at kind (length content))
     → after_data (with_data (at_chunk true reel layout bytes previous) content) kind ≡ Ok next
@@ -258,7 +259,7 @@ opened_chunk Last reel layout bytes previous next content left rest image whole 
     }
 
 any_chunk : (is_open : Bool) (reel : ReelState) (layout : List Part) (bytes : List ℕ) (previous : ℕ) (next : Between) (rest : List ℕ)
-    (image : Image) → (is_open ≡ false → bytes ≡ []) → (c : IsChunk (at_chunk is_open reel layout bytes previous) next rest)
+    (image : TapeImage) → (is_open ≡ false → bytes ≡ []) → (c : IsChunk (at_chunk is_open reel layout bytes previous) next rest)
     → Kept next c.left image → Kept (at_chunk is_open reel layout bytes previous) rest image
 any_chunk true reel layout bytes previous next rest image clean c k =
     opened_chunk c.kind reel layout bytes previous next c.content c.left rest image c.spelled c.placed c.done k
@@ -271,7 +272,7 @@ any_chunk false reel layout bytes previous next rest image clean c k =
 
 -- ---- all chunks
 
-no_chunk : (is_open : Bool) (reel : ReelState) (layout : List Part) (bytes : List ℕ) (previous : ℕ) (image : Image)
+no_chunk : (is_open : Bool) (reel : ReelState) (layout : List Part) (bytes : List ℕ) (previous : ℕ) (image : TapeImage)
     → image_end (at_chunk is_open reel layout bytes previous) ≡ Ok image → Kept (at_chunk is_open reel layout bytes previous) [] image
 unfolding Laid
 no_chunk true reel layout bytes previous image is = absurd (cc)
@@ -280,8 +281,8 @@ no_chunk false reel layout bytes previous image is =
     record {
       items = [];
       parts = [];
-      recorded = ap (λ (i : Image). i.tape.items) same ∙ sym (append-nil reel.items);
-      noted = ap (λ (i : Image). i.layout) same ∙ sym (append-nil layout);
+      recorded = ap (λ (i : TapeImage). i.tape.items) same ∙ sym (append-nil reel.items);
+      noted = ap (λ (i : TapeImage). i.layout) same ∙ sym (append-nil layout);
       laid = refl;
       fits = refl;
       spelled = sym (items_end [] (length reel.items) previous [] refl);
@@ -303,8 +304,8 @@ without_offset : {A : Type 0} (offset : ℕ) (r : Result A AwsFault) (x : A) →
 without_offset offset (Ok y) x is = ap (λ (z : _). given AwsFault z) (same_value y x is)
 without_offset offset (Err e) x is = absurd (cc)
 
-kept : (n offset : ℕ) (at : Between) (rest : List ℕ) (image : Image) → (at.is_open ≡ false → at.block ≡ []) → IsBytes rest → length rest ≤ n
-    → read_from n offset at rest ≡ Ok image → Kept at rest image
+kept : (n offset : ℕ) (at : Between) (rest : List ℕ) (image : TapeImage) → (at.is_open ≡ false → at.block ≡ []) → IsBytes rest
+    → length rest ≤ n → read_from n offset at rest ≡ Ok image → Kept at rest image
 unfolding read_from
 kept zero offset at [] image clean fits most is =
     no_chunk at.is_open at.reel at.layout at.block at.previous image (without_offset offset (image_end at) image is)
@@ -333,7 +334,7 @@ pub record IsImage (layout : List Part) (items : List Item) (image : List ℕ) :
 pub is_image : (layout : List Part) (items : List Item) (image : List ℕ) → IsLoaded layout items image → IsImage layout items image
 is_image layout items image l =
     let at = start (record { size = l.size; items = [] }) in
-    let loaded : Image = record { tape = l.tape; layout = layout } in
+    let loaded : TapeImage = record { tape = l.tape; layout = layout } in
     let fake : AwsError = record { fault = fault.FakeTape; offset = 0 } in
     let p = passed (is_fake_tape image) fake (read_from (length image) 0 at image) loaded l.loads in
     let k = kept (length image) 0 at image loaded (λ _. refl) l.bytes (omega arith) p.1 in

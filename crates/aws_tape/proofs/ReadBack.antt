@@ -16,7 +16,7 @@ use Rattle.tape_unit.specs.Reel.{ReelState, bytes_of}
 use Rattle.tape_unit.specs.Recording.{with_item, takes_item}
 use Rattle.tape_unit.proofs.Spelled.{length-packed, short, some}
 use Rattle.aws_tape.specs.declared.layout.Part.{Part}
-use Rattle.aws_tape.specs.declared.image.Image.{Image}
+use Rattle.aws_tape.specs.declared.image.TapeImage.{TapeImage}
 use Rattle.aws_tape.specs.declared.chunk.Header.{Header}
 use Rattle.aws_tape.specs.declared.chunk.ChunkKind.{ChunkKind}
 use Rattle.aws_tape.specs.declared.chunk.ChunkKind.TheVariants.{Mark, Whole, First, Middle, Last}
@@ -303,7 +303,7 @@ room_for reel x items fit =
     omega (arith, there, whole, parts, first, more, length-packed x, fit) in
     grind (arith, nat_tests, fits)
 
-abbrev image_of_tape : ReelState → List Part → Result Image AwsError
+abbrev image_of_tape : ReelState → List Part → Result TapeImage AwsError
 image_of_tape reel layout = Ok (record { tape = reel; layout = layout })
 
 -- the rest of an image was read, with some layout
@@ -376,7 +376,7 @@ pub read_back : (layout : List Part) (mounted now : List Item) → list_all is_i
 read_back layout mounted now fits size fit =
     let parts = take (count_before (common mounted now) layout) layout in
     let all = items_read now parts 0 (record { size = size; items = [] }) [] 0 0 fits (omega arith) fit in
-    let fake : Result Image AwsError = Err (record { fault = fault.FakeTape; offset = 0 }) in
+    let fake : Result TapeImage AwsError = Err (record { fault = fault.FakeTape; offset = 0 }) in
     let image = saved layout mounted now in (
       all.layout,
       ap (λ (b : Bool). cond b fake (read_from (length image) 0 (between (record { size = size; items = [] }) [] 0) image))

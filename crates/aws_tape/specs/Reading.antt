@@ -6,7 +6,7 @@ use Rattle.std.specs.List.{list_all}
 use Rattle.tape_unit.specs.Item.{Item, tape_mark, block}
 use Rattle.tape_unit.specs.Reel.{ReelState}
 use Rattle.tape_unit.specs.Recording.{with_item, takes_item}
-use Rattle.aws_tape.specs.declared.image.Image.{Image}
+use Rattle.aws_tape.specs.declared.image.TapeImage.{TapeImage}
 use Rattle.aws_tape.specs.declared.chunk.Header.{Header}
 use Rattle.aws_tape.specs.declared.chunk.ChunkKind.{ChunkKind}
 use Rattle.aws_tape.specs.declared.chunk.ChunkKind.TheVariants.{Mark, Whole, First, Middle, Last}
@@ -103,7 +103,7 @@ abbrev pub start : ReelState → Between
 start reel = record { reel = reel; is_open = false; block = []; layout = []; previous = 0 }
 
 -- after its last chunk no block is open
-abbrev pub image_end : Between → Result Image AwsFault
+abbrev pub image_end : Between → Result TapeImage AwsFault
 image_end at = if at.is_open then Err fault.BlockWithoutEnd else Ok (record { tape = at.reel; layout = at.layout })
 
 -- the data that follows a header
@@ -123,7 +123,7 @@ at_offset offset (Ok x) = Ok x
 at_offset offset (Err e) = Err (record { fault = e; offset = offset })
 
 -- the chunks that are left, at most n of them, one after the other; `rest` begins at `offset`
-unfoldable pub read_from : ℕ → ℕ → Between → List ℕ → Result Image AwsError
+unfoldable pub read_from : ℕ → ℕ → Between → List ℕ → Result TapeImage AwsError
 read_from zero offset at rest = at_offset offset (image_end at)
 read_from (suc n) offset at [] = at_offset offset (image_end at)
 read_from (suc n) offset at (byte ∷ rest) =
@@ -136,7 +136,7 @@ is_fake_tape image = nat_le 12 (length image) && list_all is_digit (take 12 imag
 
 -- WHAT AN IMAGE SAYS, read to a tape of this size: the tape with its items and the layout, or its first fault.
 -- A chunk has bytes, so `length image` steps are enough
-abbrev pub read_image : ℕ → List ℕ → Result Image AwsError
+abbrev pub read_image : ℕ → List ℕ → Result TapeImage AwsError
 read_image bytes image =
     if is_fake_tape image then Err (record { fault = fault.FakeTape; offset = 0 })
     else read_from (length image) 0 (start (record { size = bytes; items = [] })) image
@@ -153,7 +153,7 @@ Answers given (Ok x) = given ≡ Ok x
 Answers given (Err e) = IsOfImage e → given ≡ Err e
 
 -- WHAT LOADING ANSWERS if it is known what bytes the reader has
-abbrev pub Loads : ℕ → Option (List ℕ) → Result Image AwsError → Type 0
+abbrev pub Loads : ℕ → Option (List ℕ) → Result TapeImage AwsError → Type 0
 Loads bytes None result = Unit {0}
 Loads bytes (Some image) (Ok loaded) = read_image bytes image ≡ Ok loaded
 Loads bytes (Some image) (Err e) = IsOfImage e.fault → read_image bytes image ≡ Err e

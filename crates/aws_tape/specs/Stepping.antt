@@ -6,7 +6,7 @@ use Rattle.aws_tape.specs.declared.fault.AwsFault.TheVariants as fault
 use Rattle.aws_tape.specs.Chunk.{len_of}
 use Rattle.aws_tape.specs.Between.{Between}
 use Rattle.aws_tape.specs.Reading.{IsOfImage, with_data, data_after, first_after, read_from}
-use Rattle.aws_tape.specs.declared.image.Image.{Image}
+use Rattle.aws_tape.specs.declared.image.TapeImage.{TapeImage}
 use Rattle.aws_tape.specs.declared.fault.AwsError.{AwsError}
 
 -- a reader that had `rest` has what follows its first n bytes
@@ -35,7 +35,7 @@ ReadsChunk at next (Some rest) new (Ok (Some len)) =
 ReadsChunk at next (Some rest) new (Err e) = IsOfImage e → (0 < length rest) × (first_after at rest ≡ Err e)
 
 -- the chunks that are left were read
-abbrev pub ReadsChunks : Between → Option (List ℕ) → Result Image AwsError → Type 0
+abbrev pub ReadsChunks : Between → Option (List ℕ) → Result TapeImage AwsError → Type 0
 ReadsChunks at None result = Unit {0}
 ReadsChunks at (Some rest) (Ok image) = read_from (length rest) 0 at rest ≡ Ok image
 ReadsChunks at (Some rest) (Err e) = IsOfImage e.fault → read_from (length rest) 0 at rest ≡ Err e

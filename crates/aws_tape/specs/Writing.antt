@@ -43,7 +43,7 @@ abbrev pub last_len : ℕ → List Part → Item → ℕ
 last_len previous parts tape_mark = 0
 last_len previous parts (block bytes) = if is_split parts bytes then last_length previous parts else length bytes
 
--- the chunks of the items from a place on; `parts` are the chunks of blocks from there on that have several
+-- the chunks of the items from an index on; `parts` are the chunks of blocks from there on that have several
 unfoldable pub items_image : List Part → ℕ → ℕ → List Item → List ℕ
 items_image parts place previous [] = []
 items_image parts place previous (x ∷ items) =

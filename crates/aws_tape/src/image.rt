@@ -5,7 +5,7 @@ use tape_unit::Recording;
 
 /// A tape from an image, and what the image has beside it. Both are needed to save the image as it was.
 #[derive(Debug, Drop)]
-pub struct Image {
+pub struct TapeImage {
     pub tape: Recording,
     pub layout: Layout,
 }

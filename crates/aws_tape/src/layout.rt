@@ -11,7 +11,7 @@ use tape_unit::Tape;
 /// A chunk of a block that has several.
 #[derive(Clone, Copy, Debug, PartialEq, Eq)]
 pub struct Part {
-    /// The place of its block among the items of the tape.
+    /// The index of its block among the items of the tape.
     pub item: u32,
     /// How many bytes of data it has.
     pub len: u16,

@@ -17,7 +17,7 @@ mod reader;
 mod writer;
 
 pub use fault::{AwsError, AwsFault};
-pub use image::Image;
+pub use image::TapeImage;
 pub use layout::{Layout, Part};
 pub use loading::load;
 pub use writer::save;

@@ -9,7 +9,7 @@ ghost use Rattle.aws_tape.specs.Stepping.{ReadsChunks};
 
 use crate::chunk::{HEADER, is_digit};
 use crate::fault::{AwsError, AwsFault};
-use crate::image::Image;
+use crate::image::TapeImage;
 use crate::reader::Reader;
 use image_source::fill;
 use std::alloc::Global;
@@ -26,7 +26,7 @@ const MOST_CHUNKS: u64 = 1_099_511_627_776;
 ///
 /// Errors: the first rule that the image breaks, with the offset of its chunk; `Unreadable` if a read fails, or
 /// `NoMemory`.
-pub fn load<R: Read>(alloc: Global, source: &mut R, bytes: u64) -> Result<Image, AwsError>
+pub fn load<R: Read>(alloc: Global, source: &mut R, bytes: u64) -> Result<TapeImage, AwsError>
     requires { is_recordable bytes ≡ true }
     ensures { Loads bytes (R.remaining source.old) result }
 {
@@ -62,7 +62,7 @@ fn are_digits(bytes: &[u8]) -> bool
 }
 
 /// Reads the chunks of an image.
-fn load_chunks<R: Read>(alloc: Global, source: &mut R, bytes: u64) -> Result<Image, AwsError>
+fn load_chunks<R: Read>(alloc: Global, source: &mut R, bytes: u64) -> Result<TapeImage, AwsError>
     requires { is_recordable bytes ≡ true }
     ensures { ReadsChunks (start (record { size = bytes; items = [] })) (R.remaining source.old) result }
 {
@@ -85,7 +85,7 @@ fn load_chunks<R: Read>(alloc: Global, source: &mut R, bytes: u64) -> Result<Ima
 }
 
 /// The image that ends at an offset.
-fn ended(reader: Reader, offset: u64) -> Result<Image, AwsError>
+fn ended(reader: Reader, offset: u64) -> Result<TapeImage, AwsError>
     ensures { result ≡ at_offset offset (image_end reader) }
 {
     match reader.end() {

@@ -6,7 +6,7 @@ ghost use Rattle.aws_tape.specs.Reading.{of_kind};
 
 use crate::chunk::{ChunkKind, HEADER, Header, number};
 use crate::fault::AwsFault;
-use crate::image::Image;
+use crate::image::TapeImage;
 use crate::layout::{Layout, Part};
 use image_source::fill;
 use std::alloc::Global;
@@ -238,13 +238,13 @@ impl Reader {
     /// The tape and the layout after the last chunk.
     ///
     /// Error: `BlockWithoutEnd`.
-    pub fn end(self) -> Result<Image, AwsFault>
+    pub fn end(self) -> Result<TapeImage, AwsFault>
         ensures { result ≡ image_end self }
     {
         if self.is_open {
             return Err(AwsFault::BlockWithoutEnd);
         }
-        Ok(Image {
+        Ok(TapeImage {
             tape: self.tape,
             layout: self.layout,
         })

@@ -26,7 +26,7 @@ pub fn save<W: Write>(writer: &mut W, layout: &Layout, mounted: &Tape, now: &Tap
     let parts = layout.parts();
     let mut parts = &parts[..count_before(parts, kept)];
     let mut previous = 0;
-    // No effect at run time. The proof reads that the places of all items are numbers.
+    // No effect at run time. The proof reads that the indices of all items are numbers.
     let _ = now.len();
     for (place, item) in now.items().enumerate() {
         let (own, others) = parts.split_at(own_count(parts, place));
@@ -60,7 +60,7 @@ fn is_same(item: &Stored<'_>, other: &Stored<'_>) -> bool
     item.content() == other.content()
 }
 
-/// How many chunks are of the items before a place, if they are in order.
+/// How many chunks are of the items before an index, if they are in order.
 pub(crate) fn count_before(parts: &[Part], place: usize) -> usize
     ensures { result ≡ count_before place parts.now }
 {
@@ -70,7 +70,7 @@ pub(crate) fn count_before(parts: &[Part], place: usize) -> usize
         .count()
 }
 
-/// How many chunks are of the item at a place, if they begin with those.
+/// How many chunks are of the item at an index, if they begin with those.
 fn own_count(parts: &[Part], place: usize) -> usize
     ensures { result ≡ own_count place parts.now }
 {

@@ -4,7 +4,7 @@ use crate::cycles::{EXTENT, IMAGE};
 use ckd_disk::Geometry;
 use excp_site::{Refusal, Room, Site, extents};
 use std::alloc::Global;
-use unit_book::ProcessingMethod;
+use unit_book::{ProcessingMethod, UnitStep};
 
 /// A site with one task, and a unit with the disk and the DCB of a cycle of a book.
 pub fn site(alloc: Global) -> Result<Site, Refusal> {
@@ -36,9 +36,9 @@ pub fn cycles(site: &mut Site, count: u32) -> Result<u64, Refusal> {
 fn cycle(site: &mut Site) -> Result<(), Refusal> {
     site.issue(0, 0, 1, 0x1000, 0x1000, &IMAGE)?;
     site.take(0)?;
-    site.start(0)?;
-    site.run(0, u32::MAX)?;
-    site.interrupt(0)?;
+    site.step(0, UnitStep::Start)?;
+    site.step(0, UnitStep::Run(u32::MAX))?;
+    site.step(0, UnitStep::Interrupt)?;
     site.deliver(0)?;
     site.next_post(0)?;
     Ok(())

@@ -4,7 +4,7 @@ use Rattle.device_port.specs.Meaning.{Meaning, effect}
 use Rattle.device_port.specs.declared.chain.Segment.{Segment}
 use Rattle.ccw_programs.specs.declared.fetch.Link.{Link}
 use Rattle.ccw_programs.specs.declared.context.State.TheVariants.{Running}
-use Rattle.ccw_programs.specs.declared.rule.Refusal.{Refusal}
+use Rattle.ccw_programs.specs.declared.rule.FailedCcw.{FailedCcw}
 use Rattle.ccw_programs.specs.Links.{Whole, Broken, chain}
 use Rattle.ccw_programs.specs.Areas.{Parts, Bad, areas}
 use Rattle.ccw_programs.specs.Place.{checked_place}
@@ -15,7 +15,7 @@ module _ {D : Type 0} (meaning : Meaning D) (p : Program D) (running : p.place.s
   unfolding step
   step-running = ap (step_from meaning p) running
 
-  pub step-broken : (before : List Link) (refusal : Refusal) → chain p.area p.place.next p.place.fetched ≡ Broken before refusal →
+  pub step-broken : (before : List Link) (refusal : FailedCcw) → chain p.area p.place.next p.place.fetched ≡ Broken before refusal →
       step meaning p ≡ program (checked_place p.place refusal.at) p.device p.area
   step-broken before refusal h = step-running ∙ ap (step_on_chain meaning p) h
 
@@ -25,7 +25,7 @@ module _ {D : Type 0} (meaning : Meaning D) (p : Program D) (running : p.place.s
     step-whole = step-running ∙ ap (step_on_chain meaning p) is_chain
         ∙ ap (λ k. step_on_areas meaning p links fetches (areas (meaning.flow p.device k) p.area links)) (sym is_first)
 
-    pub step-bad : (refusal : Refusal) → areas (meaning.flow p.device code) p.area links ≡ Bad refusal →
+    pub step-bad : (refusal : FailedCcw) → areas (meaning.flow p.device code) p.area links ≡ Bad refusal →
         step meaning p ≡ program (checked_place p.place refusal.at) p.device p.area
     step-bad refusal h = step-whole ∙ ap (step_on_areas meaning p links fetches) h
 

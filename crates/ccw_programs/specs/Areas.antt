@@ -10,7 +10,7 @@ use Rattle.device_port.specs.declared.chain.Segment.{Segment}
 use Rattle.device_port.specs.declared.kind.Flow.{Flow}
 use Rattle.device_port.specs.declared.kind.Flow.TheVariants.{None as NoFlow, Out, Input, Back}
 use Rattle.ccw_programs.specs.declared.fetch.Link.{Link}
-use Rattle.ccw_programs.specs.declared.rule.Refusal.{Refusal}
+use Rattle.ccw_programs.specs.declared.rule.FailedCcw.{FailedCcw}
 use Rattle.ccw_programs.specs.declared.rule.Rule.{Rule}
 use Rattle.ccw_programs.specs.declared.rule.Rule.TheVariants.{DataOutside, ListBackward, ListMisaligned, WordOutside, WordReserved}
 use Rattle.ccw_programs.specs.declared.rule.Rule.TheVariants.{WordMisaligned, WordDataOutside}
@@ -42,6 +42,7 @@ word_rule m is_first at =
     else (if not (nat_lt (word_at m at) (2 ^ 31)) then WordReserved at
     else (if is_first || (word_at m at % 2048 == 0) then WordDataOutside at else WordMisaligned at))
 
+-- the parts after one more before them
 abbrev pub with_part : Segment → Result (List Segment) Rule → Result (List Segment) Rule
 with_part part (Err rule) = Err rule
 with_part part (Ok parts) = Ok (part ∷ parts)
@@ -71,6 +72,7 @@ indirect_parts m ccw =
 abbrev pub part_of : Ccw → Segment
 part_of ccw = record { address = ccw.address; count = ccw.count; skip = skips ccw }
 
+-- the part of a CCW without indirect addressing
 abbrev pub direct_parts : Flow → Storage → Ccw → Result (List Segment) Rule
 direct_parts flow m ccw = only_if (segment_lies flow m (part_of ccw)) DataOutside (Ok (part_of ccw ∷ []))
 
@@ -85,13 +87,15 @@ parts_of Back m ccw = if is_indirect ccw then Err ListBackward else direct_parts
 -- the parts of a whole chain, or its first CCW that failed, with the rule that its data area breaks
 pub data Areas : Type 0 where
   Parts : List Segment → Areas
-  Bad : Refusal → Areas
+  Bad : FailedCcw → Areas
 
+-- the parts of a CCW, and then those of the CCWs after it; the first failed CCW decides
 abbrev pub areas_joined : ℕ → Result (List Segment) Rule → Areas → Areas
 areas_joined at (Err rule) rest = Bad (record { at = at; rule = rule })
 areas_joined at (Ok parts) (Parts more) = Parts (parts ++ more)
 areas_joined at (Ok parts) (Bad other) = Bad other
 
+-- the data areas of all CCWs of a chain
 abbrev pub areas : Flow → Storage → List Link → Areas
 areas flow m [] = Parts []
 areas flow m (l ∷ ls) = areas_joined l.at (parts_of flow m l.ccw) (areas flow m ls)

@@ -11,7 +11,7 @@ use Rattle.ccw_programs.specs.declared.fetch.First.{First}
 use Rattle.ccw_programs.specs.declared.fetch.First.TheVariants.{Single, Chained, Failed}
 use Rattle.ccw_programs.specs.declared.fetch.Fetch.{Fetch}
 use Rattle.ccw_programs.specs.declared.fetch.Fetch.TheVariants.{Refused, Transfer, More, Last}
-use Rattle.ccw_programs.specs.declared.rule.Refusal.{Refusal}
+use Rattle.ccw_programs.specs.declared.rule.FailedCcw.{FailedCcw}
 use Rattle.ccw_programs.specs.declared.rule.Rule.{Rule}
 use Rattle.ccw_programs.specs.declared.rule.Rule.TheVariants.{CcwMisaligned, CcwOutside, TransferMisaligned, TransferMisplaced, NoCommand}
 use Rattle.ccw_programs.specs.declared.rule.Rule.TheVariants.{FlagsReserved, CountZero, ChainTooLong, FetchLimit}
@@ -20,15 +20,19 @@ use Rattle.ccw_programs.specs.declared.rule.Rule.TheVariants.{FlagsReserved, Cou
 abbrev pub chains_data : Ccw → Bool
 chains_data ccw = is_on chain_data_bit ccw.flags.0
 
+-- the CC flag: another command follows
 abbrev pub chains_command : Ccw → Bool
 chains_command ccw = is_on chain_command_bit ccw.flags.0
 
+-- the SLI flag: incorrect length is not reported
 abbrev pub suppresses_length : Ccw → Bool
 suppresses_length ccw = is_on suppress_length_bit ccw.flags.0
 
+-- the SKIP flag: data is not put into storage
 abbrev pub skips : Ccw → Bool
 skips ccw = is_on skip_bit ccw.flags.0
 
+-- the IDA flag: the address is that of a list of indirect words
 abbrev pub is_indirect : Ccw → Bool
 is_indirect ccw = is_on indirect_bit ccw.flags.0
 
@@ -44,19 +48,21 @@ low_bits ccw = ccw.command % low_values
 abbrev pub transfer_bits : ℕ
 transfer_bits = 0x08
 
+-- the low bits of a command that is invalid
 abbrev pub invalid_bits : ℕ
 invalid_bits = 0x00
 
+-- the CCW is a TIC
 abbrev pub is_transfer : Ccw → Bool
 is_transfer ccw = low_bits ccw == transfer_bits
 
--- a CCW that is no transfer may be at this place of its chain: the first one has a command that is valid in its low
+-- a CCW that is no transfer may be at this position in its chain: the first one has a command that is valid in its low
 -- bits, the reserved flags are off, it has a count, and there are at most 16
 abbrev pub is_allowed : ℕ → Ccw → Bool
 is_allowed place ccw =
     not ((place == 0) && (low_bits ccw == invalid_bits)) && is_off unusable_flags ccw.flags.0 && not (ccw.count == 0) && nat_lt place 16
 
--- what a CCW is at this place; `may_transfer` says whether it may be a transfer
+-- what a CCW is at this position; `may_transfer` says whether it may be a transfer
 abbrev pub kind_of_fetch : Bool → ℕ → Ccw → Fetch
 kind_of_fetch may_transfer place ccw =
     if is_transfer ccw then (if may_transfer && (ccw.address % 8 == 0) then Transfer ccw.address else Refused)
@@ -67,7 +73,7 @@ abbrev pub fetch_at : Storage → Bool → ℕ → ℕ → Fetch
 fetch_at m may_transfer place at =
     if (at % 8 == 0) && lies_in m at 8 then kind_of_fetch may_transfer place (ccw_of (bytes_at m at 8)) else Refused
 
--- WHICH RULE a CCW at this place of its chain breaks: the first in the order below. `may_transfer` says whether it may
+-- WHICH RULE a CCW at this position in its chain breaks: the first in the order below. `may_transfer` says whether it may
 -- be a transfer
 abbrev pub rule_of_kind : Bool → ℕ → Ccw → Rule
 rule_of_kind may_transfer place ccw =
@@ -86,7 +92,7 @@ rule_at m may_transfer place at =
 -- with the rule that it breaks
 pub data Fetched : Type 0 where
   Whole : List Link → ℕ → Fetched
-  Broken : List Link → Refusal → Fetched
+  Broken : List Link → FailedCcw → Fetched
 
 -- the chain is broken by its first CCW, at this address
 abbrev pub broken_at : ℕ → Rule → Fetched
@@ -97,9 +103,9 @@ abbrev pub after_ccw : Link → Fetched → Fetched
 after_ccw link (Whole links fetches) = Whole (link ∷ links) fetches
 after_ccw link (Broken links refusal) = Broken (link ∷ links) refusal
 
--- THE CHAIN FROM ONE FETCH ON, at this address: a refused fetch breaks it by this rule, a transfer leads to its address,
--- a CCW that chains data stands before what is fetched 8 bytes later, and a last CCW ends it. `rest` gives the chain
--- from a next fetch on: whether that may be a transfer, its place in the chain and its address
+-- THE CHAIN FROM ONE FETCH ON, at this address: a rejected fetch breaks it by this rule, a transfer leads to its address,
+-- a CCW that chains data comes before the CCWs from 8 bytes later on, and a last CCW ends it. `rest` gives the chain
+-- from a next fetch on: whether that may be a transfer, its position in the chain and its address
 abbrev pub chain_by : Fetch → Rule → ℕ → ℕ → ℕ → (Bool → ℕ → ℕ → Fetched) → Fetched
 chain_by Refused rule at place fetches rest = broken_at at rule
 chain_by (Transfer to) rule at place fetches rest = rest false place to
@@ -142,13 +148,14 @@ ChainBegins m (Failed at) whole = (rule : Rule) × (whole ≡ broken_at at rule)
 abbrev pub total_count : List Link → ℕ
 total_count links = sum_by (λ l. l.ccw.count) links
 
--- what a fetch that is not refused tells: the place is in storage, and a CCW has room in its chain
+-- what a fetch that is not rejected shows: the address is in storage, and a CCW has room in its chain
 abbrev pub Tells : Fetch → ℕ → ℕ → Type 0
 Tells Refused place at = Unit {0}
 Tells (Transfer to) place at = (at + 8 ≤ 2 ^ 24) × (to < 2 ^ 24)
 Tells (More ccw) place at = (at + 8 ≤ 2 ^ 24) × (place < 16) × (1 ≤ ccw.count)
 Tells (Last ccw) place at = (at + 8 ≤ 2 ^ 24) × (place < 16) × (1 ≤ ccw.count)
 
+-- what the kind of a fetch shows: a TIC leads to an address of 24 bits, and any other CCW counts a byte and has room in its chain
 abbrev pub TellsKind : Fetch → ℕ → Type 0
 TellsKind Refused place = Unit {0}
 TellsKind (Transfer to) place = to < 2 ^ 24
@@ -160,6 +167,7 @@ pub record Sound (link : Link) : Type 0 where
   pub in_storage : link.at + 8 ≤ 2 ^ 24
   pub counted : 1 ≤ link.ccw.count
 
+-- a first fetch is sound: its CCW is, and it used at most 4,096 fetches
 abbrev pub IsSound : First → Type 0
 IsSound (Single link fetches) = Sound link × (fetches ≤ 4096)
 IsSound (Chained link fetches) = Sound link × (fetches ≤ 4096)

@@ -7,7 +7,7 @@ use Rattle.device_port.specs.Meaning.{Meaning}
 use Rattle.device_port.specs.declared.chain.Segment.{Segment}
 use Rattle.device_port.specs.declared.kind.Flow.{Flow}
 use Rattle.ccw_programs.specs.declared.fetch.Link.{Link}
-use Rattle.ccw_programs.specs.declared.rule.Refusal.{Refusal}
+use Rattle.ccw_programs.specs.declared.rule.FailedCcw.{FailedCcw}
 use Rattle.ccw_programs.specs.Areas.{Parts, Bad, areas}
 use Rattle.ccw_programs.specs.Links.{chain, Whole, Broken}
 use Rattle.ccw_programs.specs.Place.{Place}
@@ -21,7 +21,7 @@ module _ {D : Type 0} (meaning : Meaning D) (device : D) (m : Storage) (place : 
     pub flow_is : flow ≡ meaning.flow device (first_of links).ccw.command
 
   -- WHAT IS LISTED: CCWs, a flow where all of them can be fetched, parts, and the CCW that fails
-  abbrev pub Lists : List Link → Option Flow → List Segment → Option Refusal → Type 0
+  abbrev pub Lists : List Link → Option Flow → List Segment → Option FailedCcw → Type 0
   Lists links (Some flow) parts None = Fetches links flow × (areas flow m links ≡ Parts parts)
   Lists links (Some flow) parts (Some refusal) = Fetches links flow × (areas flow m links ≡ Bad refusal) × (parts ≡ [])
   Lists links None parts (Some refusal) = (chain m place.next place.fetched ≡ Broken links refusal) × (parts ≡ [])

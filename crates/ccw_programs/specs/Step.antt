@@ -19,9 +19,11 @@ use Rattle.ccw_programs.specs.Place.{Place, start_place, ended_place, checked_pl
 abbrev pub no_link : Link
 no_link = record { at = 0; ccw = record { command = 0; address = 0; flags = record { 0 = 0 }; count = 0 } }
 
+-- the first CCW of a chain
 abbrev pub first_of : List Link → Link
 first_of links = slice_index_or links 0 no_link
 
+-- the last CCW of a chain
 abbrev pub last_of : List Link → Link
 last_of links = slice_index_or links (length links - 1) no_link
 
@@ -60,7 +62,7 @@ goes_on last unit sub = chains_command last.ccw && ((unit == normal_end_status) 
 abbrev pub next_address : Link → ℕ → ℕ
 next_address last unit = last.at + (if unit == modifier_end_status then 16 else 8)
 
--- the place after a command with this last CCW that ended there with this subchannel status
+-- the position after a command with this last CCW that ended there with this subchannel status
 abbrev pub placed : Place → Link → ℕ → Acted → Ending → ℕ → Place
 placed place last fetches acted end sub =
     if goes_on last acted.unit.0 sub
@@ -74,6 +76,7 @@ placed place last fetches acted end sub =
     else ended_place place
     (record { address = stored_address end.link.at; unit = acted.unit; sub = record { 0 = sub }; residual = end.residual }) acted.sense
 
+-- the position after a command that the device did
 abbrev pub acted_place : Place → Flow → List Link → ℕ → Acted → Place
 acted_place place flow links fetches acted =
     placed place (last_of links) fetches acted (ending links (moved links acted))
@@ -85,12 +88,15 @@ pub record Program (D : Type 0) : Type 0 where
   pub device : D
   pub area : Storage
 
+-- a program at a position, with its device and storage
 abbrev pub program : {D : Type 0} → Place → D → Storage → Program D
 program place device area = record { place = place; device = device; area = area }
 
+-- a program at its first CCW
 abbrev pub begun : {D : Type 0} → ℕ → D → Storage → Program D
 begun start device area = program (start_place start) device area
 
+-- whether a program has not ended
 abbrev pub is_running : State → Bool
 is_running Running = true
 is_running (Ended csw sense) = false
@@ -109,6 +115,7 @@ module _ {D : Type 0} (meaning : Meaning D) where
   step_on_chain p (Whole links fetches) =
       step_on_areas p links fetches (areas (meaning.flow p.device (first_of links).ccw.command) p.area links)
 
+  -- one command of a program; a program that ended stays as it is
   abbrev pub step_from : Program D → State → Program D
   step_from p Running = step_on_chain p (chain p.area p.place.next p.place.fetched)
   step_from p (Ended csw sense) = p

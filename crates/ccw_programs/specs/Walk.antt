@@ -1,4 +1,4 @@
--- A chain in the words of the channel: each CCW is in storage at the place to which the one before leads.
+-- A chain in the words of the channel: each CCW is in storage at the address to which the one before leads.
 use Rattle.std.specs.Prelude.{◌≡◌, ℕ, ◌+◌, ◌%◌, ◌==◌, not, Bool, true, false, List, [], ◌∷◌, ◌⊎◌}
 use Rattle.io_area.specs.Storage.{Storage, lies_in, bytes_at}
 use Rattle.io_images.specs.Images.{ccw_of}

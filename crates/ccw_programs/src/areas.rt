@@ -8,7 +8,7 @@ ghost use Rattle.ccw_programs.specs.Links.{Sound, is_indirect, skips};
 ghost use Rattle.ccw_programs.specs.Areas.{areas, parts_of, parts_from, part_of, word_rule, is_usable, room_after, indirect_parts, direct_parts, word_at, Parts, Bad, AddsParts};
 
 use crate::fetch::Link;
-use crate::rule::{Refusal, Rule};
+use crate::rule::{FailedCcw, Rule};
 use crate::workspace::Parts;
 use device_port::{Flow, Segment};
 use io_area::Area;
@@ -138,7 +138,7 @@ fn usable_part(
     })
 }
 
-/// Adds the parts of a CCW, or tells the rule that they break.
+/// Adds the parts of a CCW, or returns the rule that they break.
 fn push_parts(chain: &mut Parts, flow: Flow, area: &Area, ccw: &Ccw) -> Result<(), Rule>
     requires { length chain.old.items ≤ 495 }
     ensures room { length chain.new.items ≤ length chain.old.items + 33 }
@@ -189,13 +189,13 @@ pub(crate) fn data_area<'a>(
     }
 }
 
-/// Puts the parts of a whole chain together, or tells the first CCW that failed.
+/// Puts the parts of a whole chain together, or returns the first CCW that failed.
 pub(crate) fn data_areas(
     flow: Flow,
     area: &Area,
     links: &[Link],
     chain: &mut Parts,
-) -> Result<(), Refusal>
+) -> Result<(), FailedCcw>
     requires few { length links.now ≤ 16 }
     requires some { 1 ≤ length links.now }
     requires sound { All Sound links.now }
@@ -204,7 +204,7 @@ pub(crate) fn data_areas(
     ensures can { OnOk result (CanAct flow area.now chain.new.items) }
 {
     for link in links {
-        push_parts(chain, flow, area, &link.ccw).map_err(|rule| Refusal { at: link.at, rule })?;
+        push_parts(chain, flow, area, &link.ccw).map_err(|rule| FailedCcw { at: link.at, rule })?;
     }
     Ok(())
 }

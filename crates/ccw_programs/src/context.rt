@@ -63,7 +63,7 @@ impl Context {
         }
     }
 
-    /// A program that goes on at an address, of which one CCW was fetched: what it would do there can be told ahead.
+    /// A running program whose next CCW is at this address, with one CCW fetched: used to list what it would do there.
     pub fn going_on(next: u32) -> Context
         ensures { result ≡ later_place next }
     {
@@ -76,7 +76,7 @@ impl Context {
         }
     }
 
-    /// Copies the place of a channel program: where it is, and how it ended if it ended. Never allocates.
+    /// Copies the position of a channel program: where it is, and how it ended if it ended. Never allocates.
     pub fn copy(&self) -> Context
         ensures { result ≡ self.now }
     {
@@ -162,7 +162,7 @@ impl Context {
         let counted = total_count(links);
         let end = ending_of(links, counted.min(acted.want));
         let sub = sub_status(flow, &links[0], counted, acted, &end.link);
-        self.stand_behind(&last_of(links), fetches, acted, end, sub);
+        self.finish_command(&last_of(links), fetches, acted, end, sub);
     }
 
     /// After a command of one CCW that the device did.
@@ -175,13 +175,20 @@ impl Context {
     {
         let end = ended_in(*link, acted.want);
         let sub = sub_status(flow, link, u32::from(link.ccw.count), acted, link);
-        self.stand_behind(link, fetches, acted, end, sub);
+        self.finish_command(link, fetches, acted, end, sub);
     }
 
-    /// Behind the last CCW of a command that ended there with this subchannel status: at the next command, or at
-    /// the end of the program.
+    /// Finishes a command whose last CCW is `last`: moves to the next command if the program chains, and
+    /// otherwise ends the program with this subchannel status.
     #[inline(always)]
-    fn stand_behind(&mut self, last: &Link, fetches: u16, acted: Acted, end: Ending, sub: SubStatus)
+    fn finish_command(
+        &mut self,
+        last: &Link,
+        fetches: u16,
+        acted: Acted,
+        end: Ending,
+        sub: SubStatus,
+    )
         requires running { self.old.state ≡ State.Running }
         requires sound { Sound last.now }
         requires fetches { fetches ≤ 4096 }

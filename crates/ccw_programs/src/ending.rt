@@ -14,7 +14,7 @@ pub struct Ending {
     pub residual: u16,
 }
 
-/// Where a command ended that moved `n` bytes.
+/// The CCW in which a command that moved `n` bytes ended, and the residual count of that CCW.
 pub(crate) fn ending_of(links: &[Link], n: u32) -> Ending
     requires { 1 ≤ length links.now }
     ensures { result ≡ ending links.now n }
@@ -34,7 +34,7 @@ pub(crate) fn ending_of(links: &[Link], n: u32) -> Ending
     ended_in(*link, left)
 }
 
-/// A command that used up `n` bytes of this CCW ended there.
+/// The ending of a command in this CCW, of which it used up `n` bytes.
 #[inline(always)]
 pub(crate) fn ended_in(link: Link, n: u32) -> Ending
     ensures { result ≡ record { link = link; residual = link.ccw.count - n } }

@@ -5,7 +5,7 @@ ghost use Rattle.std.specs.Prelude.{◌≡◌, ◌<◌, ◌≤◌, ◌+◌, ◌-
 ghost use Rattle.ccw_programs.specs.Links.{Tells, TellsKind, rule_at, rule_of_kind, fetch_at, fetched_on, kind_of_fetch, is_transfer, is_allowed, chain, ChainBegins, IsSound, Whole, Broken, Sound};
 ghost use Rattle.io_images.specs.Images.{ccw_of};
 
-use crate::rule::{Refusal, Rule};
+use crate::rule::{FailedCcw, Rule};
 use arrayvec::ArrayVec;
 use io_area::Area;
 use io_images::Ccw;
@@ -42,7 +42,7 @@ fn is_transfer(ccw: &Ccw) -> bool
     ccw.command % LOW_VALUES == TRANSFER_BITS
 }
 
-/// Whether a CCW that is no transfer may be at this place of its chain.
+/// Whether a CCW that is no transfer may be at this position in its chain.
 fn is_allowed(place: usize, ccw: &Ccw) -> bool
     ensures { result ≡ is_allowed place ccw.now }
 {
@@ -52,7 +52,7 @@ fn is_allowed(place: usize, ccw: &Ccw) -> bool
         && place < 16
 }
 
-/// What a CCW is at this place of its chain. `may_transfer` says whether it may be a transfer.
+/// What a CCW is at this position in its chain. `may_transfer` says whether it may be a transfer.
 fn kind_of_fetch(may_transfer: bool, place: usize, ccw: Ccw) -> Fetch
     ensures value { result ≡ kind_of_fetch may_transfer place ccw }
     ensures tells { TellsKind result place }
@@ -144,7 +144,7 @@ pub(crate) fn fetch_on(
     transfers: bool,
     fetches: u16,
     links: &mut Links,
-) -> Result<u16, Refusal>
+) -> Result<u16, FailedCcw>
     requires limit { fetches ≤ 4096 }
     requires sound { All Sound links.old.items }
     ensures some { OnOk result (1 ≤ length links.new.items) }
@@ -159,7 +159,7 @@ pub(crate) fn fetch_on(
         match fetch_at(area, may_transfer, links.len(), at) {
             Fetch::Refused => {
                 let rule = broken_rule(area, may_transfer, links.len(), at);
-                return Err(Refusal { at, rule });
+                return Err(FailedCcw { at, rule });
             }
             Fetch::Transfer(to) => {
                 at = to;
@@ -176,7 +176,7 @@ pub(crate) fn fetch_on(
             }
         }
     }
-    Err(Refusal {
+    Err(FailedCcw {
         at,
         rule: Rule::FetchLimit,
     })
@@ -196,7 +196,7 @@ fn broken_rule(area: &Area, may_transfer: bool, place: usize, at: u32) -> Rule
     }
 }
 
-/// The first rule that a CCW at this place breaks. `may_transfer` says whether it may be a transfer.
+/// The first rule that a CCW at this position breaks. `may_transfer` says whether it may be a transfer.
 fn rule_of_kind(may_transfer: bool, place: usize, ccw: &Ccw) -> Rule
     ensures { result ≡ rule_of_kind may_transfer place ccw.now }
 {

@@ -5,7 +5,7 @@ ghost use Rattle.ccw_programs.specs.Walk.{ChainsAreWalks};
 
 use device_port::Device;
 
-/// Every chain that is fetched is in storage, each CCW at the place to which the one before leads (Principles of
+/// Every chain that is fetched is in storage, each CCW at the address to which the one before leads (Principles of
 /// Operation, chapter 15, "Data Chaining" and "Transfer in Channel").
 pub fn chains_are_walks()
     ensures { ChainsAreWalks }

@@ -23,6 +23,6 @@ mod workspace;
 pub use context::{Burst, Context, State};
 pub use fetch::Link;
 pub use listing::{Listing, look};
-pub use rule::{Refusal, Rule};
+pub use rule::{FailedCcw, Rule};
 pub use run::{burst, bursts};
 pub use workspace::Workspace;

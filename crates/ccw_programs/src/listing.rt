@@ -1,4 +1,4 @@
-//! What a channel program is to do next, told without doing it.
+//! What a channel program would do next, listed without doing it.
 
 ghost use Rattle.std.specs.Prelude.{◌≡◌};
 ghost use Rattle.ccw_programs.specs.Listings.{Lists};
@@ -7,14 +7,14 @@ use crate::areas::data_areas;
 use crate::context::{Context, State};
 use crate::ending::command_code;
 use crate::fetch::{Link, fetch_on};
-use crate::rule::Refusal;
+use crate::rule::FailedCcw;
 use crate::workspace::Workspace;
 use device_port::{Device, Flow, Segment};
 use io_area::Area;
 
 /// The next command of a program (chapter 15, "Channel-Command Word").
 ///
-/// If all of it can be fetched and has its data area, `links` are its CCWs, `flow` is the way of its data, and
+/// If all of it can be fetched and has its data area, `links` are its CCWs, `flow` is the direction of its data, and
 /// `parts` are the parts of its data in storage. If a CCW cannot be fetched, `links` are those before it. If the data
 /// area of one fails, `links` are the whole chain, without parts. `refusal` is the CCW that fails, with its rule.
 #[derive(Drop)]
@@ -22,7 +22,7 @@ pub struct Listing<'w> {
     pub links: &'w [Link],
     pub flow: Option<Flow>,
     pub parts: &'w [Segment],
-    pub refusal: Option<Refusal>,
+    pub refusal: Option<FailedCcw>,
 }
 
 /// Tells what a program that runs is to do next, put together in the workspace. Takes no memory.

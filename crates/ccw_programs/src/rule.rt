@@ -44,7 +44,7 @@ pub enum Rule {
 
 /// A CCW that failed, by its address, and the rule that it breaks.
 #[derive(Clone, Copy, PartialEq, Eq, Debug)]
-pub struct Refusal {
+pub struct FailedCcw {
     pub at: u32,
     pub rule: Rule,
 }

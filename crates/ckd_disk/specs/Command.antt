@@ -4,7 +4,7 @@ use Rattle.device_port.specs.declared.kind.Flow.{Flow}
 use Rattle.device_port.specs.declared.kind.Flow.TheVariants as flow
 use Rattle.ckd_disk.specs.declared.command.Command.{Command}
 use Rattle.ckd_disk.specs.declared.command.Command.TheVariants.{Control, Read, Write}
-use Rattle.ckd_disk.specs.declared.command.Control.TheVariants as control
+use Rattle.ckd_disk.specs.declared.command.ControlCommand.TheVariants as control
 use Rattle.ckd_disk.specs.declared.command.Read.TheVariants as read
 use Rattle.ckd_disk.specs.declared.command.Write.TheVariants as write
 
@@ -26,7 +26,7 @@ command_of code =
     else if code == 0x31 then Some (Write write.SearchId)
     else None
 
--- the way that its data goes
+-- the direction of its data
 abbrev pub flow_of : Option Command → Flow
 flow_of None = flow.None
 flow_of (Some (Control command)) = flow.None

@@ -30,6 +30,7 @@ pub record Written : Type 0 where
 abbrev pub answer_of : Acted → Access → List ℕ → Answer
 answer_of acted access bytes = record { acted = acted; access = access_of access; bytes = bytes }
 
+-- the result of a write of the code
 abbrev pub written_of : Acted → Access → TrackState → Written
 written_of acted access track = record { acted = acted; access = access_of access; track = track }
 
@@ -41,6 +42,7 @@ left access orientation armed = record { mask = access.mask; orientation = orien
 abbrev pub checked : ℕ → AccessState → Answer
 checked sense access = record { acted = unit_check sense; access = left access access.orientation unarmed; bytes = [] }
 
+-- a write that ends with unit check, and changes nothing on the track
 abbrev pub refused : ℕ → TrackState → AccessState → Written
 refused sense track access = record { acted = unit_check sense; access = left access access.orientation unarmed; track = track }
 
@@ -83,6 +85,7 @@ search_id_at track access given reached =
     then searched access reached (at_count reached.place) 5 equal (armed_by_id reached.place)
     else checked no_record_found access
 
+-- 31 SEARCH ID EQUAL: compares the identifier of the next record
 abbrev pub search_id : TrackState → AccessState → List ℕ → Answer
 search_id track access given = search_id_at track access given (next access.orientation (length track.records))
 
@@ -96,6 +99,7 @@ search_key_at track access given (Some reached) =
     then searched access reached (at_key reached.place) (length key) equal (armed_by_key reached.place)
     else checked no_record_found access
 
+-- 29 SEARCH KEY EQUAL: compares the key of the record whose count area went by, else of the next one but R0
 abbrev pub search_key : TrackState → AccessState → List ℕ → Answer
 search_key track access given = search_key_at track access given (key_record access.orientation (length track.records))
 
@@ -108,6 +112,7 @@ read_count_at track access (Some reached) =
     let bytes = count_area (record_of track.records reached.place) in
     record { acted = normal_end (length bytes); access = left access (at_count reached.place) unarmed; bytes = bytes }
 
+-- 12 READ COUNT: gives the count area of the next record but R0
 abbrev pub read_count : TrackState → AccessState → Answer
 read_count track access = read_count_at track access (next_record access.orientation (length track.records))
 
@@ -119,6 +124,7 @@ part_read access place r bytes = record {
   bytes = bytes;
 }
 
+-- a read of one part of the record that it reaches
 abbrev pub read_part : (Record → List ℕ) → TrackState → AccessState → Option Reached → Answer
 read_part part track access None = checked no_record_found access
 read_part part track access (Some reached) =
@@ -146,12 +152,14 @@ armed_for_data (armed_by_id place) = Some place
 armed_for_data (armed_by_key place) = Some place
 armed_for_data (armed_by_format place) = None
 
+-- 0D writes the record that a SEARCH ID matched
 abbrev pub armed_for_key_and_data : Armed → Option ℕ
 armed_for_key_and_data unarmed = None
 armed_for_key_and_data (armed_by_id place) = Some place
 armed_for_key_and_data (armed_by_key place) = None
 armed_for_key_and_data (armed_by_format place) = None
 
+-- 1D writes after the record that a search matched, or that a 1D wrote
 abbrev pub armed_for_format : Armed → Option ℕ
 armed_for_format unarmed = None
 armed_for_format (armed_by_id place) = Some place
@@ -169,6 +177,7 @@ write_data_at track access given (Some place) =
       track = with_content track place given;
     }
 
+-- 05 WRITE DATA, if the file mask allows writes
 abbrev pub write_data : TrackState → AccessState → List ℕ → Written
 write_data track access given =
     if inhibits_writes access.mask then refused command_reject track access
@@ -185,12 +194,13 @@ write_key_and_data_at track access given (Some place) =
       track = with_key_and_content track place given;
     }
 
+-- 0D WRITE KEY AND DATA, if the file mask allows writes
 abbrev pub write_key_and_data : TrackState → AccessState → List ℕ → Written
 write_key_and_data track access given =
     if inhibits_writes access.mask then refused command_reject track access
     else write_key_and_data_at track access given (armed_for_key_and_data access.armed)
 
--- 1D WRITE COUNT, KEY AND DATA: a new record after a place, and none after it
+-- 1D WRITE COUNT, KEY AND DATA: a new record after a position, and none after it
 abbrev pub write_count_key_and_data_at : TrackState → AccessState → List ℕ → Option ℕ → Written
 write_count_key_and_data_at track access given None = refused command_reject track access
 write_count_key_and_data_at track access given (Some place) =
@@ -202,6 +212,7 @@ write_count_key_and_data_at track access given (Some place) =
       track = with_record_behind track place (record_written given);
     }
 
+-- 1D WRITE COUNT, KEY AND DATA, if the file mask allows formatting writes
 abbrev pub write_count_key_and_data : TrackState → AccessState → List ℕ → Written
 write_count_key_and_data track access given =
     if inhibits_formatting access.mask then refused command_reject track access

@@ -14,8 +14,8 @@ use Rattle.device_port.specs.Meaning.{Meaning, Outcome, fits_seek}
 use Rattle.ckd_disk.specs.declared.access.Access.{Access}
 use Rattle.ckd_disk.specs.declared.command.Command.{Command}
 use Rattle.ckd_disk.specs.declared.command.Command.TheVariants.{Control, Read, Write}
-use Rattle.ckd_disk.specs.declared.command.Control.{Control as ControlCommand}
-use Rattle.ckd_disk.specs.declared.command.Control.TheVariants as control
+use Rattle.ckd_disk.specs.declared.command.ControlCommand.{ControlCommand}
+use Rattle.ckd_disk.specs.declared.command.ControlCommand.TheVariants as control
 use Rattle.ckd_disk.specs.declared.command.Read.{Read as ReadCommand}
 use Rattle.ckd_disk.specs.declared.command.Read.TheVariants as read
 use Rattle.ckd_disk.specs.declared.command.Write.{Write as WriteCommand}
@@ -43,9 +43,11 @@ abbrev pub disk_state : ℕ → ℕ → List TrackState → ℕ → Access → O
 disk_state cylinders heads tracks track access ordinals =
     record { cylinders = cylinders; heads = heads; tracks = tracks; track = track; access = access_of access; ordinals = ordinals }
 
+-- the track of a number that the disk does not have
 abbrev pub no_track : TrackState
 no_track = record { size = 0; records = [] }
 
+-- the track with a number
 abbrev pub track_of : List TrackState → ℕ → TrackState
 track_of tracks number = slice_index_or tracks number no_track
 
@@ -53,6 +55,7 @@ track_of tracks number = slice_index_or tracks number no_track
 abbrev pub current_track : DiskState → TrackState
 current_track disk = track_of disk.tracks disk.track
 
+-- the number of a track, cylinder by cylinder
 abbrev pub track_number : ℕ → ℕ → ℕ → ℕ
 track_number heads cylinder head = cylinder * heads + head
 
@@ -77,6 +80,7 @@ prefix disk seek mask = record disk { track = track_number disk.heads seek.cylin
 abbrev pub answered : DiskState → Answer → Outcome DiskState
 answered disk answer = record { acted = answer.acted; device = record disk { access = answer.access }; bytes = answer.bytes }
 
+-- the disk after a write on the current track
 abbrev pub wrote : DiskState → Written → Outcome DiskState
 wrote disk written = record {
   acted = written.acted;
@@ -88,9 +92,11 @@ wrote disk written = record {
 abbrev pub seek_given : List ℕ → Seek
 seek_given given = seek_of (0 ∷ (take 6 given ++ 0 ∷ []))
 
+-- the disk has the track of a seek address
 abbrev pub is_seek : DiskState → Seek → Bool
 is_seek disk seek = fits_seek kind.Disk disk.cylinders disk.heads seek
 
+-- 07 SEEK: moves the heads, if the file mask allows it and the disk has the track
 abbrev pub seek : DiskState → List ℕ → Outcome DiskState
 seek disk given =
     if inhibits_seeks disk.access.mask then answered disk (checked file_protected disk.access)
@@ -102,6 +108,7 @@ abbrev pub control_on : DiskState → ControlCommand → Outcome DiskState
 control_on disk control.NoOperation = answered disk (no_operation disk.access)
 control_on disk control.SetFileMask = answered disk (set_file_mask disk.access)
 
+-- the commands that give data to the program
 abbrev pub read_on : DiskState → ReadCommand → Outcome DiskState
 read_on disk read.Sense = answered disk (sense disk.access)
 read_on disk read.Count = answered disk (read_count (current_track disk) disk.access)
@@ -109,6 +116,7 @@ read_on disk read.Data = answered disk (read_data (current_track disk) disk.acce
 read_on disk read.KeyAndData = answered disk (read_key_and_data (current_track disk) disk.access)
 read_on disk read.CountKeyAndData = answered disk (read_count_key_and_data (current_track disk) disk.access)
 
+-- the commands that take data from the program
 abbrev pub write_on : DiskState → WriteCommand → List ℕ → Outcome DiskState
 write_on disk write.Seek given = seek disk given
 write_on disk write.SearchId given = answered disk (search_id (current_track disk) disk.access given)
@@ -129,6 +137,7 @@ abbrev pub faulted : DiskState → Fault → Outcome DiskState
 faulted disk fault =
     record { acted = failed fault; device = record disk { access = left disk.access disk.access.orientation unarmed }; bytes = [] }
 
+-- a command, which meets this fault or none
 abbrev pub act_by : Option Fault → DiskState → ℕ → List ℕ → Outcome DiskState
 act_by None disk code given = command_on disk (command_of code) given
 act_by (Some fault) disk code given = faulted disk fault

@@ -8,7 +8,7 @@ use Rattle.device_port.specs.Meaning.{Outcome, Lawful, GivesWhatItWants}
 use Rattle.device_port.specs.MeaningLaws.{gives_nothing}
 use Rattle.ckd_disk.specs.declared.command.Command.{Command}
 use Rattle.ckd_disk.specs.declared.command.Command.TheVariants.{Control, Read, Write}
-use Rattle.ckd_disk.specs.declared.command.Control.TheVariants as control
+use Rattle.ckd_disk.specs.declared.command.ControlCommand.TheVariants as control
 use Rattle.ckd_disk.specs.declared.command.Read.TheVariants as read
 use Rattle.ckd_disk.specs.declared.command.Write.TheVariants as write
 use Rattle.ckd_disk.specs.Record.{Record, packed}

@@ -8,6 +8,7 @@ pub mod Walk
 pub mod Commands
 pub mod Disk
 pub mod DiskLaws
+pub mod DiskSize
 pub mod Mount
 pub mod MountFacts
 pub mod Refusals

@@ -13,6 +13,7 @@ use Rattle.ckd_disk.specs.Record.{Record, size_of}
 use Rattle.ckd_disk.specs.Track.{TrackState, bytes_of}
 use Rattle.ckd_disk.specs.Disk.{DiskState, track_number, at_start}
 
+-- how many tracks the disk has
 abbrev pub track_count : Geometry → ℕ
 track_count g = g.cylinders * g.heads
 
@@ -36,6 +37,7 @@ track_descriptor cylinder head = record { id = id_on cylinder head 0; key = []; 
 abbrev pub initial : InitialRecord → Record
 initial r = record { id = id_on r.cylinder r.head r.number; key = r.key.items; content = r.content.items }
 
+-- the number of the track of a record
 abbrev pub track_of_initial : Geometry → InitialRecord → ℕ
 track_of_initial g r = track_number g.heads r.cylinder r.head
 
@@ -47,6 +49,7 @@ stands_on g track r = track_of_initial g r == track
 abbrev pub bytes_on : Geometry → ℕ → InitialRecord → ℕ
 bytes_on g track r = if stands_on g track r then size_of (initial r) else 0
 
+-- the records of a track just after mounting: R0, and then its records in order
 abbrev pub opening_records : Geometry → List InitialRecord → ℕ → List Record
 opening_records g records track = track_descriptor (track / g.heads) (track % g.heads) ∷ map initial (filter (stands_on g track) records)
 
@@ -68,9 +71,11 @@ is_medium g records faults = is_script faults && list_all (is_initial g) records
 abbrev pub opening_track : Geometry → List InitialRecord → ℕ → TrackState
 opening_track g records track = record { size = g.track_bytes; records = opening_records g records track }
 
+-- all tracks just after mounting
 abbrev pub opening_tracks : Geometry → List InitialRecord → List TrackState
 opening_tracks g records = map (opening_track g records) (range_with_len 0 (track_count g))
 
+-- the disk just after mounting: the heads are at track 0, at the index point
 abbrev pub opening : Geometry → List InitialRecord → List Fault → DiskState
 opening g records faults = record {
   cylinders = g.cylinders;

@@ -10,6 +10,7 @@ pub record Record : Type 0 where
   pub key : List ℕ
   pub content : List ℕ
 
+-- the record with these parts
 abbrev pub record_with : List ℕ → List ℕ → List ℕ → Record
 record_with id key content = record { id = id; key = key; content = content }
 
@@ -40,9 +41,11 @@ pub record FitsCountArea (r : Record) : Type 0 where
 abbrev pub key_len : List ℕ → ℕ
 key_len bytes = slice_index bytes 5
 
+-- the length of the data area, from the count area
 abbrev pub content_len : List ℕ → ℕ
 content_len bytes = slice_index bytes 6 * 256 + slice_index bytes 7
 
+-- how many bytes the record with this count area takes
 abbrev pub size_at : List ℕ → ℕ
 size_at bytes = 8 + key_len bytes + content_len bytes
 

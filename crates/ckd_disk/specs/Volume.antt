@@ -19,9 +19,11 @@ pub record VolumeState : Type 0 where
   pub track_bytes : ℕ
   pub tracks : List TrackState
 
+-- a number of heads that a volume may have
 abbrev pub is_heads : ℕ → Bool
 is_heads heads = nat_le 1 heads && nat_le heads 65_535
 
+-- a track size that a volume may have
 abbrev pub is_track_bytes : ℕ → Bool
 is_track_bytes bytes = nat_le 16 bytes && nat_le bytes 65_535
 
@@ -41,10 +43,11 @@ BeginsVolume heads bytes (Err volume.NoMemory) = ⊥
 abbrev pub end_mark : List ℕ
 end_mark = 0xFF ∷ 0xFF ∷ 0xFF ∷ 0xFF ∷ 0xFF ∷ 0xFF ∷ 0xFF ∷ 0xFF ∷ []
 
+-- the bytes begin with the end mark
 abbrev pub is_end : List ℕ → Bool
 is_end bytes = starts_with nat_eq bytes end_mark
 
--- how much room records have: the bytes of the track, as far as they are given
+-- how many bytes are left for records: the bytes of the track, as far as they are given
 abbrev pub record_room : ℕ → List ℕ → ℕ
 record_room size bytes = min size (length bytes)
 
@@ -88,6 +91,7 @@ pub record Recorded (before : VolumeState) (bytes : List ℕ) (after : VolumeSta
   pub taken : used ≡ bytes_of records
   pub volume : after ≡ with_track before records
 
+-- the volume may have another track
 abbrev pub has_room : VolumeState → Bool
 has_room v = nat_le (length v.tracks + 1) 65_535
 

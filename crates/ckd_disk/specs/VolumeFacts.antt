@@ -3,7 +3,7 @@ use Rattle.std.specs.Prelude.{◌≡◌, ℕ, true, ◌≤◌, List, length, tak
 use Rattle.device_port.specs.declared.faults.Fault.{Fault}
 use Rattle.device_port.specs.Faults.{is_script}
 use Rattle.device_port.specs.Packed.{HoldsItems, items_at}
-use Rattle.ckd_disk.specs.declared.volume.Unmounted.{Unmounted}
+use Rattle.ckd_disk.specs.declared.volume.UnmountedVolume.{UnmountedVolume}
 use Rattle.ckd_disk.specs.Record.{ckd}
 use Rattle.ckd_disk.specs.Disk.{DiskState}
 use Rattle.ckd_disk.specs.Volume.{VolumeState, IsTrack, is_whole, mounted_volume, Unmounts}
@@ -16,6 +16,6 @@ pub record IsExtent (size : ℕ) (bytes : List ℕ) (used count : ℕ) : Type 0 
   pub within : used ≤ length bytes
 
 -- WHAT MOUNTING A VOLUME ANSWERS
-abbrev pub MountsVolume : VolumeState → List Fault → Result DiskState Unmounted → Type 0
+abbrev pub MountsVolume : VolumeState → List Fault → Result DiskState UnmountedVolume → Type 0
 MountsVolume v faults (Ok disk) = (is_whole v ≡ true) × (is_script faults ≡ true) × (disk ≡ mounted_volume v faults)
 MountsVolume v faults (Err refused) = (refused.volume ≡ v) × Unmounts v faults refused.reason

@@ -8,6 +8,7 @@ pub record Reached : Type 0 where
   pub place : ℕ
   pub passed : ℕ
 
+-- the record that a walk of the code reached
 abbrev pub reached_of : CodeReached → Reached
 reached_of r = record { place = r.spot.place; passed = r.passed }
 
@@ -24,6 +25,7 @@ next_behind None count = record { place = 0; passed = 0 }
 next_behind (Some place) count = if nat_lt (place + 1) count then record { place = place + 1; passed = 0 }
     else record { place = 0; passed = 1 }
 
+-- the next record, from an orientation
 abbrev pub next : Orientation → ℕ → Reached
 next orientation count = next_behind (gone_by orientation) count
 
@@ -35,6 +37,7 @@ next_record_behind (Some place) count =
     else if nat_lt 1 count then Some (record { place = 1; passed = 1 })
     else None
 
+-- the next record but R0, from an orientation
 abbrev pub next_record : Orientation → ℕ → Option Reached
 next_record orientation count = next_record_behind (gone_by orientation) count
 

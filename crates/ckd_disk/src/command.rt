@@ -7,7 +7,7 @@ use device_port::Flow;
 
 /// A command that moves no data.
 #[derive(Clone, Copy, Debug, PartialEq, Eq)]
-pub enum Control {
+pub enum ControlCommand {
     NoOperation,
     SetFileMask,
 }
@@ -33,10 +33,10 @@ pub enum Write {
     CountKeyAndData,
 }
 
-/// The commands of a disk, by the way their data goes.
+/// The commands of a disk, by the direction of their data.
 #[derive(Clone, Copy, Debug, PartialEq, Eq)]
 pub enum Command {
-    Control(Control),
+    Control(ControlCommand),
     Read(Read),
     Write(Write),
 }
@@ -47,7 +47,7 @@ impl Command {
         ensures { result ≡ command_of code }
     {
         let command = match code {
-            0x03 => Command::Control(Control::NoOperation),
+            0x03 => Command::Control(ControlCommand::NoOperation),
             0x04 => Command::Read(Read::Sense),
             0x05 => Command::Write(Write::Data),
             0x06 => Command::Read(Read::Data),
@@ -57,7 +57,7 @@ impl Command {
             0x12 => Command::Read(Read::Count),
             0x1D => Command::Write(Write::CountKeyAndData),
             0x1E => Command::Read(Read::CountKeyAndData),
-            0x1F => Command::Control(Control::SetFileMask),
+            0x1F => Command::Control(ControlCommand::SetFileMask),
             0x29 => Command::Write(Write::SearchKey),
             0x31 => Command::Write(Write::SearchId),
             _ => return None,
@@ -65,7 +65,7 @@ impl Command {
         Some(command)
     }
 
-    /// The way that the data of a command goes.
+    /// The direction of a command's data.
     pub fn flow(command: Option<Self>) -> Flow
         ensures { result ≡ flow_of command }
     {

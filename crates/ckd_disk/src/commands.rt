@@ -10,7 +10,9 @@ ghost use Rattle.ckd_disk.specs.Commands.{answer_of, checked, no_operation};
 
 use crate::access::{Access, Armed};
 use device_port::Acted;
-pub use reads::{Answer, read_count, read_count_key_and_data, read_data, read_key_and_data, sense};
+pub use reads::{
+    ReadResult, read_count, read_count_key_and_data, read_data, read_key_and_data, sense,
+};
 pub use searches::{search_id, search_key};
 pub use writes::{write_count_key_and_data, write_data, write_key_and_data};
 

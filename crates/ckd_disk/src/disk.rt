@@ -1,6 +1,6 @@
 //! The disk as a device: its mounting, its commands, and its reader.
 
-ghost use Rattle.std.specs.Prelude.{◌≡◌, ◌+◌, ◌-◌, ◌*◌, ◌^◌, ◌<◌, ◌≤◌, ℕ, length, IfNone, IfOk, IfSome, [], true};
+ghost use Rattle.std.specs.Prelude.{◌≡◌, ◌+◌, ◌-◌, ◌*◌, ◌^◌, ◌<◌, ◌≤◌, ℕ, length, map, IfNone, IfOk, IfSome, [], true};
 ghost use Rattle.std.specs.List.{AllByRecursion};
 ghost use Rattle.device_port.specs.Faults.{IsClear};
 ghost use Rattle.device_port.specs.Packed.{image_of};
@@ -8,9 +8,10 @@ ghost use Rattle.ckd_disk.specs.Access.{access_of};
 ghost use Rattle.ckd_disk.specs.Record.{FitsCountArea, ckd};
 ghost use Rattle.ckd_disk.specs.Disk.{disk, seek_given, track_of, at_start};
 ghost use Rattle.ckd_disk.specs.DiskLaws.{disk_lawful};
+ghost use Rattle.ckd_disk.specs.DiskSize.{disk_keeps_size, disk_size};
 
 use crate::access::{Access, Armed};
-use crate::command::{Command, Control, Read, Write};
+use crate::command::{Command, ControlCommand, Read, Write};
 use crate::commands::{
     check, no_operation, read_count, read_count_key_and_data, read_data, read_key_and_data,
     search_id, search_key, sense, write_count_key_and_data, write_data, write_key_and_data,
@@ -20,8 +21,8 @@ use crate::mount::{
 };
 use crate::track::{Records, Track};
 use device_port::{
-    Acted, COMMAND_REJECT, Chain, Device, FILE_PROTECTED, Fault, FaultScript, Flow, Given, Kind,
-    MountError, is_script,
+    Acted, COMMAND_REJECT, Chain, Device, FILE_PROTECTED, Fault, FaultScript, FixedSize, Flow,
+    Given, Kind, MountError, is_script,
 };
 use io_area::Area;
 use io_images::{FileMask, Seek};
@@ -182,9 +183,9 @@ impl Disk {
         self.tracks[number].image()
     }
 
-    /// Does a command that may meet a fault.
+    /// Counts a command against the fault script: ends it with its fault if it has one, and executes it otherwise.
     #[inline(never)]
-    fn act_by_script(&mut self, command: u8, chain: &Chain<'_>, area: &mut Area) -> Acted
+    fn act_or_fault(&mut self, command: u8, chain: &Chain<'_>, area: &mut Area) -> Acted
         requires { CanAct (flow_of (command_of command)) area.old chain.now }
         ensures acted { result ≡ (effect disk self.old command chain.now area.old).acted }
         ensures device { self.new ≡ (effect disk self.old command chain.now area.old).device }
@@ -196,12 +197,12 @@ impl Disk {
             self.access.leave(orientation, Armed::No);
             return fault.acted();
         }
-        self.obey(command, chain, area)
+        self.execute(command, chain, area)
     }
 
-    /// Does a command that meets no fault.
+    /// Executes a command that meets no fault.
     #[inline(always)]
-    fn obey(&mut self, command: u8, chain: &Chain<'_>, area: &mut Area) -> Acted
+    fn execute(&mut self, command: u8, chain: &Chain<'_>, area: &mut Area) -> Acted
         requires { CanAct (flow_of (command_of command)) area.old chain.now }
         ensures acted { result ≡ (command_on self.old (command_of command) (offered (flow_of (command_of command)) area.old chain.now)).acted }
         ensures device { self.new ≡ (command_on self.old (command_of command) (offered (flow_of (command_of command)) area.old chain.now)).device }
@@ -216,18 +217,18 @@ impl Disk {
         }
     }
 
-    /// A command that moves no data.
-    fn control(&mut self, command: Control) -> Acted
+    /// Executes a command that moves no data.
+    fn control(&mut self, command: ControlCommand) -> Acted
         ensures acted { result ≡ (control_on self.old command).acted }
         ensures device { self.new ≡ (control_on self.old command).device }
     {
         match command {
-            Control::NoOperation => no_operation(&mut self.access),
-            Control::SetFileMask => check(&mut self.access, COMMAND_REJECT),
+            ControlCommand::NoOperation => no_operation(&mut self.access),
+            ControlCommand::SetFileMask => check(&mut self.access, COMMAND_REJECT),
         }
     }
 
-    /// A command that gives data to the program.
+    /// Executes a command that gives data to the program.
     #[inline(always)]
     fn read(&mut self, command: Read, chain: &Chain<'_>, area: &mut Area) -> Acted
         requires { AllLie Flow.Input area.old chain.now }
@@ -249,7 +250,7 @@ impl Disk {
         answer.acted
     }
 
-    /// A command that takes data from the program.
+    /// Executes a command that takes data from the program.
     #[inline(always)]
     fn write(&mut self, command: Write, chain: &Chain<'_>, area: &Area) -> Acted
         requires { AllLie Flow.Out area.now chain.now }
@@ -335,9 +336,9 @@ impl Device for Disk {
 
     fn act(&mut self, command: u8, chain: &Chain<'_>, area: &mut Area) -> Acted {
         if self.faults.pass() {
-            self.obey(command, chain, area)
+            self.execute(command, chain, area)
         } else {
-            self.act_by_script(command, chain, area)
+            self.act_or_fault(command, chain, area)
         }
     }
 
@@ -353,6 +354,31 @@ impl Device for Disk {
     }
 
     ghost lawful = { disk_lawful };
+}
+
+impl FixedSize for Disk {
+    ghost size = { disk_size };
+
+    fn copy_from(&mut self, from: &Self) {
+        copy_onto(&mut self.tracks, &from.tracks);
+        self.faults.copy_from(&from.faults);
+        self.cylinders = from.cylinders;
+        self.heads = from.heads;
+        self.track = from.track;
+        self.access = from.access;
+    }
+
+    ghost keeps_size = { disk_keeps_size };
+}
+
+/// Makes tracks the same as others of the same sizes, one by one.
+fn copy_onto(tracks: &mut Vec<Track>, from: &Vec<Track>)
+    requires { map (λ t. t.size) tracks.old.items ≡ map (λ t. t.size) from.now.items }
+    ensures { tracks.new.items ≡ from.now.items }
+{
+    for number in 0..from.len() {
+        tracks[number].copy_from(&from[number]);
+    }
 }
 
 /// Copies the tracks of a disk, in their order. Fails only if memory runs out.

@@ -10,15 +10,15 @@ ghost use Rattle.device_port.specs.Packed.{Begins, HoldsItems, items_at, image_o
 ghost use Rattle.ckd_disk.specs.Record.{FitsCountArea, record_with, ckd, count_area, packed, size_of, record_at, size_at, IsRecord, record_written};
 ghost use Rattle.ckd_disk.specs.Track.{record_of, bytes_of, bytes_before, IsSpot, IsBehind, with_content, with_key_and_content, with_record_behind, with_last};
 
-use device_port::{Given, fill_at};
-pub use records::{Records, Stored};
+use device_port::{Given, fill_at, put_at};
+pub use records::{Records, StoredRecord};
 pub use spot::Spot;
 use std::alloc::{AllocError, Global};
 use std::marker::Model;
 pub use stored::{COUNT_AREA, size_given, size_of_first};
 use stored::{content_of, count_area_of, first, id_of, key_of, parts_of, put_record};
 
-/// A track as one image of its size: its records packed in order, and a rest that means nothing.
+/// A track as one image of its size: its records packed in order, and then unused bytes.
 #[derive(Debug, Drop)]
 pub struct Track {
     bytes: Vec<u8>,
@@ -81,6 +81,16 @@ impl Track {
             used: self.used,
             count: self.count,
         })
+    }
+
+    /// Becomes the same as another track of its size. Never allocates. Takes time in the bytes of the records of `from`.
+    pub fn copy_from(&mut self, from: &Self)
+        requires { self.old.size ≡ from.now.size }
+        ensures { self.new ≡ from.now }
+    {
+        put_at(&mut self.bytes, 0, from.image());
+        self.used = from.used;
+        self.count = from.count;
     }
 
     /// Whether `len` bytes fit after the last record.

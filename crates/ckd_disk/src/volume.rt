@@ -45,14 +45,14 @@ pub enum VolumeError {
 
 /// A volume that is not mounted, and why.
 #[derive(Debug, Drop)]
-pub struct Unmounted {
+pub struct UnmountedVolume {
     pub volume: Volume,
     pub reason: MountError,
 }
 
 /// The records of a track: how many they are, and how many bytes they take.
 #[derive(Clone, Copy, Debug)]
-struct Extent {
+struct TrackUse {
     count: usize,
     used: usize,
 }
@@ -130,7 +130,7 @@ impl Volume {
     /// Errors, in this order; the volume stays as it is then:
     ///
     /// - `TooManyTracks`.
-    /// - `NoEndMark`, `PastTrack`: with the place in `bytes` where the records before it end.
+    /// - `NoEndMark`, `PastTrack`: with the offset in `bytes` where the records before it end.
     /// - `NoRecord`.
     /// - `NoMemory`.
     pub fn record_track(&mut self, bytes: &[u8]) -> Result<usize, VolumeError>
@@ -162,25 +162,25 @@ impl Volume {
     /// - `BadGeometry`: the volume has no track, or its last cylinder is not whole.
     /// - `BadMedium`: the faults are no fault script.
     /// - `NoMemory`.
-    pub fn mount(self, alloc: Global, faults: &[Fault]) -> Result<Disk, Unmounted>
+    pub fn mount(self, alloc: Global, faults: &[Fault]) -> Result<Disk, UnmountedVolume>
         ensures { MountsVolume self faults.now result }
     {
         let count = self.tracks.len();
         let heads = usize::from(self.heads);
         if count == 0 || count % heads != 0 {
-            return Err(Unmounted {
+            return Err(UnmountedVolume {
                 volume: self,
                 reason: MountError::BadGeometry,
             });
         }
         if !is_script(faults) {
-            return Err(Unmounted {
+            return Err(UnmountedVolume {
                 volume: self,
                 reason: MountError::BadMedium,
             });
         }
         let Ok(faults) = FaultScript::new(alloc, faults) else {
-            return Err(Unmounted {
+            return Err(UnmountedVolume {
                 volume: self,
                 reason: MountError::NoMemory,
             });
@@ -196,7 +196,7 @@ impl Volume {
 }
 
 /// How far the records go that the bytes of a track begin with, up to the end mark. A track has `size` bytes.
-fn extent_of(bytes: &[u8], size: usize) -> Result<Extent, VolumeError>
+fn extent_of(bytes: &[u8], size: usize) -> Result<TrackUse, VolumeError>
     requires { size ≤ 65_535 }
     ensures records { IfOk result (λ e. IsExtent size bytes.now e.used e.count) }
     ensures refused { IfErr result (Stops size bytes.now) }
@@ -220,5 +220,5 @@ fn extent_of(bytes: &[u8], size: usize) -> Result<Extent, VolumeError>
     if count == 0 {
         return Err(VolumeError::NoRecord);
     }
-    Ok(Extent { count, used })
+    Ok(TrackUse { count, used })
 }

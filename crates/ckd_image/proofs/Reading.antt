@@ -9,7 +9,7 @@ use Rattle.ckd_disk.specs.Volume.{VolumeState, is_whole}
 use Rattle.ckd_image.specs.declared.fault.CkdError.{CkdError}
 use Rattle.ckd_image.specs.declared.fault.CkdFault.{CkdFault}
 use Rattle.ckd_image.specs.declared.format.Format.{Format}
-use Rattle.ckd_image.specs.declared.kept.Image.{Image}
+use Rattle.ckd_image.specs.declared.kept.DiskImage.{DiskImage}
 use Rattle.image_source.specs.Filled.{Fills}
 use Rattle.ckd_image.specs.Header.{format_of}
 use Rattle.ckd_image.specs.Image.{KeptTrackState, KeptState, kept_at, tracks_file, file_of, IsWholeImage}
@@ -89,12 +89,12 @@ fails_track f header old now next v kept zeros track offset fault at far read lo
     )
 
 -- what the loader answers behind the last whole track
-pub record Ends (header : List ℕ) (old next : Option (List ℕ)) (result : Result Image CkdError) : Type 0 where
+pub record Ends (header : List ℕ) (old next : Option (List ℕ)) (result : Result DiskImage CkdError) : Type 0 where
   pub loaded : IfOk result (ReadsTracks header old next)
   pub fault : IfErr result (λ e. IsFault e.fault → FailsAfter header old next e)
 
 pub ends : (f : Format) (header : List ℕ) (old now next : Option (List ℕ)) (v : VolumeState) (kept : List KeptTrackState)
-    (zeros buffer : List ℕ) (offset count : ℕ) (result : Result Image CkdError) → Far f header old now v kept zeros offset →
+    (zeros buffer : List ℕ) (offset count : ℕ) (result : Result DiskImage CkdError) → Far f header old now v kept zeros offset →
     Fills now next buffer count → count < length buffer → length buffer ≡ f.bytes
     → EndsImage v (record { header = header; tracks = kept }) (offset + count) count result → Ends header old next result
 ends f header old now next v kept zeros buffer offset count (Ok image) far fills short long answer =
@@ -164,7 +164,7 @@ pub fails_header : (header : List ℕ) (old new : Option (List ℕ)) (e : CkdErr
 fails_header header old new e result read long says is = (header, read, inr (inl (record { long = long; fails = sym says ∙ is })))
 
 -- the header was read before
-pub loaded : (header : List ℕ) (old mid new : Option (List ℕ)) (result : Result Image CkdError) → Consumes old mid header →
+pub loaded : (header : List ℕ) (old mid new : Option (List ℕ)) (result : Result DiskImage CkdError) → Consumes old mid header →
     IfOk result (ReadsTracks header mid new) → IfOk result (Loaded old new)
 loaded header old mid new (Err e) read h = tt
 loaded header old mid new (Ok image) read h =
@@ -176,7 +176,7 @@ loaded header old mid new (Ok image) read h =
       end = h.end;
     }
 
-pub failed : (header : List ℕ) (old mid new : Option (List ℕ)) (result : Result Image CkdError) → Consumes old mid header →
+pub failed : (header : List ℕ) (old mid new : Option (List ℕ)) (result : Result DiskImage CkdError) → Consumes old mid header →
     IfErr result (λ e. IsFault e.fault → FailsAfter header mid new e) → IfErr result (λ e. IsFault e.fault → FailsImage old new e)
 failed header old mid new (Ok image) read h = tt
 failed header old mid new (Err e) read h = λ (known : IsFault e.fault).

@@ -20,7 +20,7 @@ use Rattle.ckd_image.specs.declared.fault.CkdError.{CkdError}
 use Rattle.ckd_image.specs.declared.fault.CkdFault.{CkdFault}
 use Rattle.ckd_image.specs.declared.fault.CkdFault.TheVariants as fault
 use Rattle.ckd_image.specs.declared.format.Format.{Format}
-use Rattle.ckd_image.specs.declared.kept.Image.{Image}
+use Rattle.ckd_image.specs.declared.kept.DiskImage.{DiskImage}
 use Rattle.ckd_image.specs.Header.{format_of}
 use Rattle.ckd_image.specs.Image.{KeptTrackState, KeptState, kept_at, home_of, after_home, track_file, tracks_file, file_of, IsRecorded}
 use Rattle.ckd_image.specs.Image.{IsImageBegun, IsImage}
@@ -192,7 +192,7 @@ left_by bytes read (Some left) h = record { left = left; parts = h; end = λ e. 
 left_of : (bytes read : List ℕ) (old new : Option (List ℕ)) → old ≡ Some bytes → Consumes old new read → Left bytes read new
 left_of bytes read old new e h = left_by bytes read new (subst (λ (o : Option (List ℕ)). Consumes o new read) e h)
 
-loaded_same : (bytes : List ℕ) (v : VolumeState) (old new : Option (List ℕ)) (image : Image) → old ≡ Some bytes → IsImage bytes v →
+loaded_same : (bytes : List ℕ) (v : VolumeState) (old new : Option (List ℕ)) (image : DiskImage) → old ≡ Some bytes → IsImage bytes v →
     Loaded old new image → image.volume ≡ v
 loaded_same bytes v old new image old-is is l =
     let r = left_of bytes _ old new old-is l.read in
@@ -347,7 +347,7 @@ other fault.PastTrack never = absurd (never (rule fault.PastTrack refl))
 other fault.Unreadable never = inl refl
 other fault.NoMemory never = inr refl
 
-pub reads_back : (old new : Option (List ℕ)) (result : Result Image CkdError) → IfOk result (Loaded old new)
+pub reads_back : (old new : Option (List ℕ)) (result : Result DiskImage CkdError) → IfOk result (Loaded old new)
     → IfErr result (λ e. IsFault e.fault → FailsImage old new e) → (bytes : List ℕ) (v : VolumeState) → old ≡ Some bytes → IsImage bytes v →
     LoadsVolume v result
 reads_back old new (Ok image) loaded failed bytes v old-is is = loaded_same bytes v old new image old-is is loaded

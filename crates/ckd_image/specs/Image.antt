@@ -32,7 +32,7 @@ kept_at kept number = slice_index_or kept number plain
 abbrev pub home_of : ℕ → ℕ → List ℕ
 home_of heads number = to_be_bytes w16 (number / heads) ++ to_be_bytes w16 (number % heads)
 
--- A TRACK: its home address of flag, CC and HH, its records, the end mark, and a rest
+-- A TRACK: its home address of flag, CC and HH, its records, the end mark, and unused bytes
 abbrev pub after_home : ℕ → KeptTrackState → List Record → List ℕ
 after_home bytes kept records = image_of ckd records ++ (end_mark ++ padded (bytes - 13 - bytes_of records) kept.tail)
 

@@ -11,7 +11,7 @@ use Rattle.ckd_image.specs.declared.fault.CkdError.{CkdError}
 use Rattle.ckd_image.specs.declared.fault.CkdFault.{CkdFault}
 use Rattle.ckd_image.specs.declared.fault.CkdFault.TheVariants as fault
 use Rattle.ckd_image.specs.declared.format.Format.{Format}
-use Rattle.ckd_image.specs.declared.kept.Image.{Image}
+use Rattle.ckd_image.specs.declared.kept.DiskImage.{DiskImage}
 use Rattle.ckd_image.specs.Header.{format_of}
 use Rattle.ckd_image.specs.Image.{KeptTrackState, KeptState, home_of, track_file, file_of, IsImageBegun, IsRecorded, IsWholeImage}
 
@@ -21,14 +21,14 @@ pub record IsFault (e : CkdFault) : Type 0 where
   pub memory : e ≡ fault.NoMemory → ⊥
 
 -- AN IMAGE WAS READ: all bytes of the reader are its header and whole cylinders, at least one
-pub record Loaded (old new : Option (List ℕ)) (image : Image) : Type 0 where
+pub record Loaded (old new : Option (List ℕ)) (image : DiskImage) : Type 0 where
   pub format : Format
   pub valid : IsWholeImage format image.kept image.volume
   pub read : Consumes old new (file_of format image.kept image.volume.tracks)
   pub end : IsAtEnd new
 
 -- WHAT READING AN IMAGE OF A VOLUME ANSWERS: this volume, unless a read fails or memory runs out
-abbrev pub LoadsVolume : VolumeState → Result Image CkdError → Type 0
+abbrev pub LoadsVolume : VolumeState → Result DiskImage CkdError → Type 0
 LoadsVolume v (Ok image) = image.volume ≡ v
 LoadsVolume v (Err e) = (e.fault ≡ fault.Unreadable) ⊎ (e.fault ≡ fault.NoMemory)
 
@@ -131,7 +131,7 @@ pub record IsLoader (f : Format) (v : VolumeState) (kept : List KeptTrackState) 
   pub blank : zeros ≡ replicate f.bytes 0
 
 -- the tracks after a header were read to the end
-pub record ReadsTracks (header : List ℕ) (old new : Option (List ℕ)) (image : Image) : Type 0 where
+pub record ReadsTracks (header : List ℕ) (old new : Option (List ℕ)) (image : DiskImage) : Type 0 where
   pub format : Format
   pub valid : IsWholeImage format image.kept image.volume
   pub read : (bytes : List ℕ) × Consumes old new bytes × (header ++ bytes ≡ file_of format image.kept image.volume.tracks)
@@ -142,6 +142,6 @@ abbrev pub FailsAfter : List ℕ → Option (List ℕ) → Option (List ℕ) →
 FailsAfter header old new e = (bytes : List ℕ) × Consumes old new bytes × FailsIn new (header ++ bytes) e
 
 -- what follows the last track: nothing, after whole cylinders
-abbrev pub EndsImage : VolumeState → KeptState → ℕ → ℕ → Result Image CkdError → Type 0
+abbrev pub EndsImage : VolumeState → KeptState → ℕ → ℕ → Result DiskImage CkdError → Type 0
 EndsImage v kept size count (Ok image) = (count ≡ 0) × (is_whole v ≡ true) × (image.volume ≡ v) × (image.kept ≡ kept)
 EndsImage v kept size count (Err e) = ((0 < count) ⊎ (is_whole v ≡ false)) × (e ≡ record { fault = fault.CutShort; offset = size })

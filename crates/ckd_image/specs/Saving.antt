@@ -9,8 +9,8 @@ use Rattle.ckd_disk.specs.Track.{TrackState}
 use Rattle.ckd_disk.specs.Disk.{DiskState, track_of}
 use Rattle.ckd_disk.specs.Volume.{VolumeState, is_whole, end_mark}
 use Rattle.ckd_image.specs.declared.format.Format.{Format}
-use Rattle.ckd_image.specs.declared.fault.SaveError.{SaveError}
-use Rattle.ckd_image.specs.declared.fault.SaveError.TheVariants as save
+use Rattle.ckd_image.specs.declared.fault.DiskSaveError.{DiskSaveError}
+use Rattle.ckd_image.specs.declared.fault.DiskSaveError.TheVariants as save
 use Rattle.ckd_image.specs.Header.{format_of}
 use Rattle.ckd_image.specs.Image.{KeptTrackState, KeptState, plain, kept_at, tracks_file, IsImageBegun, IsImage}
 
@@ -53,7 +53,7 @@ volume_on disk = record { heads = disk.heads; track_bytes = (track_of disk.track
 
 -- WHY A DISK IS NOT SAVED: what would be written is no image of it, and nothing is written if the header is of another disk;
 -- or a write failed or memory ran out. A model is asked for by a new image alone
-abbrev pub RefusesSaving : KeptState → DiskState → DiskState → Option (List ℕ) → Option (List ℕ) → SaveError → Type 0
+abbrev pub RefusesSaving : KeptState → DiskState → DiskState → Option (List ℕ) → Option (List ℕ) → DiskSaveError → Type 0
 RefusesSaving kept mounted disk old new (save.NoModel heads track_bytes) = ⊥
 RefusesSaving kept mounted disk old new save.BadDisk =
     (IsImage (image_on kept mounted disk) (volume_on disk) → ⊥) × ((format_of kept.header ≡ Ok (format_on disk) → ⊥) → Keeps old new)

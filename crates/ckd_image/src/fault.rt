@@ -47,7 +47,7 @@ pub enum CkdFault {
 
 /// Why an image is not written.
 #[derive(Clone, Copy, Debug, PartialEq, Eq, Error)]
-pub enum SaveError {
+pub enum DiskSaveError {
     #[error("no model of a disk has {heads} heads and {track_bytes} bytes a track")]
     NoModel { heads: u16, track_bytes: u32 },
     #[error("an image has at most 65,535 tracks, all of the size that its header gives")]

@@ -6,7 +6,7 @@ ghost use Rattle.ckd_image.specs.Header.{format_of};
 ghost use Rattle.ckd_image.specs.Image.{kept_at, plain};
 ghost use Rattle.ckd_image.specs.Saving.{ForgetsWritten};
 
-use crate::fault::SaveError;
+use crate::fault::DiskSaveError;
 use crate::format::{BESIDE, Format, HEADER};
 use crate::models::device_type;
 use crate::saver::is_as_mounted;
@@ -18,19 +18,19 @@ use std::marker::Model;
 
 /// A volume from an image, and what the image has beside it. Both are needed to save the image as it was.
 #[derive(Debug, Drop)]
-pub struct Image {
+pub struct DiskImage {
     pub volume: Volume,
-    pub kept: Kept,
+    pub kept: DiskImageDetails,
 }
 
 /// What an image has beside the records of its tracks.
 #[derive(Debug, Drop)]
-pub struct Kept {
+pub struct DiskImageDetails {
     header: [u8; 512],
     tracks: Vec<KeptTrack>,
 }
 
-impl Model for Kept {
+impl Model for DiskImageDetails {
     ghost use Rattle.ckd_image.specs.Image.{KeptState};
 
     ghost Value = { KeptState };
@@ -71,22 +71,22 @@ impl KeptTrack {
     }
 }
 
-impl Kept {
+impl DiskImageDetails {
     /// What an image with this header has beside its records.
     pub(crate) fn new(header: [u8; 512], tracks: Vec<KeptTrack>) -> Self
         ensures { result ≡ record { header = header; tracks = tracks.items } }
     {
-        Kept { header, tracks }
+        DiskImageDetails { header, tracks }
     }
 
     /// What a new image of a disk has, if the disk is that of a model.
     ///
     /// Error: `NoModel`.
-    pub fn of_model(alloc: Global, heads: u16, track_bytes: u32) -> Result<Self, SaveError>
+    pub fn of_model(alloc: Global, heads: u16, track_bytes: u32) -> Result<Self, DiskSaveError>
         ensures format { IfOk result (λ k. format_of k.header ≡ Ok (record { heads = heads; bytes = track_bytes + 14 })) }
         ensures tracks { IfOk result (λ k. k.tracks ≡ []) }
     {
-        let no_model = SaveError::NoModel { heads, track_bytes };
+        let no_model = DiskSaveError::NoModel { heads, track_bytes };
         let Some(device_type) = device_type(heads, track_bytes) else {
             return Err(no_model);
         };
@@ -100,7 +100,7 @@ impl Kept {
         header[16] = device_type;
         // The header is read back, so that the contract needs no proof of how it was put together.
         match Format::of(&header) {
-            Ok(format) if format == (Format { heads, bytes }) => Ok(Kept {
+            Ok(format) if format == (Format { heads, bytes }) => Ok(DiskImageDetails {
                 header,
                 tracks: Vec::new(alloc),
             }),

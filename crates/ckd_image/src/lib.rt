@@ -15,9 +15,9 @@ mod loader;
 mod models;
 mod saver;
 
-pub use fault::{CkdError, CkdFault, SaveError};
+pub use fault::{CkdError, CkdFault, DiskSaveError};
 pub use format::Format;
-pub use kept::{Image, Kept, KeptTrack};
+pub use kept::{DiskImage, DiskImageDetails, KeptTrack};
 pub use loader::load;
 pub use models::{DiskModel, MODELS};
 pub use saver::save;

@@ -9,7 +9,7 @@ ghost use Rattle.ckd_image.specs.Loading.{IsFault, Loaded, FailsImage, LoadsVolu
 
 use crate::fault::{CkdError, CkdFault};
 use crate::format::{BESIDE, Format, HEADER};
-use crate::kept::{Image, Kept, KeptTrack};
+use crate::kept::{DiskImage, DiskImageDetails, KeptTrack};
 use ckd_disk::{Volume, VolumeError};
 use image_source::fill;
 use std::alloc::{AllocError, Global};
@@ -39,7 +39,7 @@ struct Loader {
 /// An image that breaks no rule loads to its volume, unless a read fails or memory runs out.
 ///
 /// Errors: the first rule that the image breaks, with its offset; `Unreadable` if a read fails; or `NoMemory`.
-pub fn load<R: Read>(alloc: Global, reader: &mut R) -> Result<Image, CkdError>
+pub fn load<R: Read>(alloc: Global, reader: &mut R) -> Result<DiskImage, CkdError>
     ensures loaded { IfOk result (Loaded (R.remaining reader.old) (R.remaining reader.new)) }
     ensures fault { IfErr result (λ e. IsFault e.fault → FailsImage (R.remaining reader.old) (R.remaining reader.new) e) }
     ensures reads_back { (bytes : List ℕ) (v : VolumeState) → R.remaining reader.old ≡ Some bytes → IsImage bytes v → LoadsVolume v result }
@@ -101,7 +101,7 @@ impl Loader {
     }
 
     /// Reads the tracks that follow the header, to the end of the reader.
-    fn read<R: Read>(mut self, reader: &mut R, header: [u8; 512]) -> Result<Image, CkdError>
+    fn read<R: Read>(mut self, reader: &mut R, header: [u8; 512]) -> Result<DiskImage, CkdError>
         requires loader { IsLoader self.format self.volume self.tracks.items self.zeros.items }
         requires empty { self.volume.tracks ≡ [] }
         requires header { format_of header ≡ Ok self.format }
@@ -143,7 +143,7 @@ impl Loader {
     /// `offset`.
     ///
     /// Error: `CutShort`.
-    fn end(self, header: [u8; 512], offset: usize, count: usize) -> Result<Image, CkdError>
+    fn end(self, header: [u8; 512], offset: usize, count: usize) -> Result<DiskImage, CkdError>
         requires some { 1 ≤ self.volume.heads }
         requires small { offset + count < 2 ^ 64 }
         ensures { EndsImage self.volume (record { header = header; tracks = self.tracks.items }) (offset + count) count result }
@@ -163,15 +163,15 @@ impl Loader {
             tracks,
             zeros: _,
         } = self;
-        Ok(Image {
+        Ok(DiskImage {
             volume,
-            kept: Kept::new(header, tracks),
+            kept: DiskImageDetails::new(header, tracks),
         })
     }
 
     /// Reads the next track.
     ///
-    /// Errors: the first rule that the track breaks, with its place in the track; or `NoMemory`.
+    /// Errors: the first rule that the track breaks, with its offset in the track; or `NoMemory`.
     fn take(&mut self, track: &[u8]) -> Result<(), CkdError>
         requires loader { IsLoader self.old.format self.old.volume self.old.tracks.items self.old.zeros.items }
         requires long { length track.now ≡ self.old.format.bytes }

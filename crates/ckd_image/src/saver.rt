@@ -7,9 +7,9 @@ ghost use Rattle.ckd_image.specs.declared.format.Format.{Format};
 ghost use Rattle.ckd_disk.specs.Volume.{VolumeState};
 ghost use Rattle.ckd_image.specs.Saving.{track_bytes_with, is_as_mounted, kept_with, image_on, volume_on, IsAsRead, RefusesSaving};
 
-use crate::fault::SaveError;
+use crate::fault::DiskSaveError;
 use crate::format::BESIDE;
-use crate::kept::Kept;
+use crate::kept::DiskImageDetails;
 use crate::loader::address;
 use ckd_disk::{Disk, END_MARK};
 use device_port::Device;
@@ -34,10 +34,10 @@ const LEAST_BESIDE: usize = 13;
 pub fn save<W: Write>(
     alloc: Global,
     writer: &mut W,
-    kept: &Kept,
+    kept: &DiskImageDetails,
     mounted: &Disk,
     disk: &Disk,
-) -> Result<(), SaveError>
+) -> Result<(), DiskSaveError>
     ensures saved { OnOk result (Appends (W.contents writer.old) (W.contents writer.new) (image_on kept.now mounted.now disk.now)) }
     ensures read_back { OnOk result (IsImage (image_on kept.now mounted.now disk.now) (volume_on disk.now)) }
     ensures refused { IfErr result (RefusesSaving kept.now mounted.now disk.now (W.contents writer.old) (W.contents writer.new)) }
@@ -53,22 +53,22 @@ pub fn save<W: Write>(
         || count > 65_535
         || count % usize::from(heads) != 0
     {
-        return Err(SaveError::BadDisk);
+        return Err(DiskSaveError::BadDisk);
     }
     match writer.write_all(header) {
         Ok(()) => {}
-        Err(error) => return Err(SaveError::NotWritten(error.kind())),
+        Err(error) => return Err(DiskSaveError::NotWritten(error.kind())),
     }
     let bytes = size + BESIDE as usize;
     let Ok(zeros) = vec![in alloc; 0; bytes] else {
-        return Err(SaveError::NoMemory);
+        return Err(DiskSaveError::NoMemory);
     };
     let Ok(mut track) = Vec::with_capacity(alloc, bytes) else {
-        return Err(SaveError::NoMemory);
+        return Err(DiskSaveError::NoMemory);
     };
     for number in 0..count {
         if disk.track_bytes(number) != size {
-            return Err(SaveError::BadDisk);
+            return Err(DiskSaveError::BadDisk);
         }
         let records = disk.track_image(number);
         let (flag, tail) = kept_with(kept, mounted, records, number);
@@ -76,14 +76,19 @@ pub fn save<W: Write>(
         put_track(&mut track, bytes, flag, &home, records, tail, &zeros)?;
         match writer.write_all(&track) {
             Ok(()) => {}
-            Err(error) => return Err(SaveError::NotWritten(error.kind())),
+            Err(error) => return Err(DiskSaveError::NotWritten(error.kind())),
         }
     }
     Ok(())
 }
 
 /// The flag of a track, and the bytes after its end mark: those kept if its records are those of the mounted disk.
-fn kept_with<'a>(kept: &'a Kept, mounted: &Disk, records: &[u8], number: usize) -> (u8, &'a [u8])
+fn kept_with<'a>(
+    kept: &'a DiskImageDetails,
+    mounted: &Disk,
+    records: &[u8],
+    number: usize,
+) -> (u8, &'a [u8])
     ensures flag { result.0 ≡ (kept_with kept.now mounted.now.tracks records.now number).flag }
     ensures tail { result.1.now ≡ (kept_with kept.now mounted.now.tracks records.now number).tail }
 {
@@ -109,17 +114,17 @@ fn put_track(
     records: &[u8],
     tail: &[u8],
     zeros: &[u8],
-) -> Result<(), SaveError>
+) -> Result<(), DiskSaveError>
     requires zeros { zeros.now ≡ replicate bytes 0 }
     requires room { 13 + length records.now ≤ bytes }
     ensures put { OnOk result (track.new.items ≡ track_bytes_with bytes flag address.now records.now tail.now) }
-    ensures fault { IfErr result (λ e. e ≡ SaveError.NoMemory) }
+    ensures fault { IfErr result (λ e. e ≡ DiskSaveError.NoMemory) }
 {
     let room = bytes - LEAST_BESIDE - records.len();
     let tail = &tail[..tail.len().min(room)];
     track.clear();
     let Ok(()) = track.push(flag) else {
-        return Err(SaveError::NoMemory);
+        return Err(DiskSaveError::NoMemory);
     };
     append(track, address)?;
     append(track, records)?;
@@ -129,12 +134,12 @@ fn put_track(
 }
 
 /// Adds bytes to a buffer.
-fn append(buffer: &mut Vec<u8>, bytes: &[u8]) -> Result<(), SaveError>
+fn append(buffer: &mut Vec<u8>, bytes: &[u8]) -> Result<(), DiskSaveError>
     ensures appended { OnOk result (buffer.new.items ≡ buffer.old.items ++ bytes.now) }
-    ensures fault { IfErr result (λ e. e ≡ SaveError.NoMemory) }
+    ensures fault { IfErr result (λ e. e ≡ DiskSaveError.NoMemory) }
 {
     match buffer.extend_from_slice(bytes) {
         Ok(()) => Ok(()),
-        Err(_) => Err(SaveError::NoMemory),
+        Err(_) => Err(DiskSaveError::NoMemory),
     }
 }

@@ -53,7 +53,7 @@ are_faults_after last (f ∷ fs) = nat_lt last f.ordinal && is_fault f && are_fa
 abbrev pub is_script : List Fault → Bool
 is_script faults = are_faults_after 0 faults
 
--- a place in a script: the faults before it are those of commands done, and those from it on are ahead
+-- a position in a script: the faults before it are those of commands done, and those from it on are ahead
 pub record Follows (script : List Fault) (next done : ℕ) : Type 0 where
   pub within : next ≤ length script
   pub passed : AllByRecursion (λ f. f.ordinal ≤ done) (take next script)

@@ -3,6 +3,7 @@
 pub mod Answers
 pub mod Common
 pub mod Faults
+pub mod FixedSize
 pub mod Meaning
 pub mod MeaningLaws
 pub mod Moves

@@ -68,6 +68,6 @@ received Back chain bytes m = stored_back chain bytes m
 abbrev pub padded : ℕ → List ℕ → List ℕ
 padded n bytes = take n bytes ++ replicate (n - length bytes) 0
 
--- an image with these bytes from a place on
+-- an image with these bytes from an offset on
 abbrev pub written : List ℕ → ℕ → List ℕ → List ℕ
 written image at bytes = take at image ++ (bytes ++ drop (at + length bytes) image)

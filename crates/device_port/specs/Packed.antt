@@ -18,7 +18,7 @@ pub record ReadsBack {X : Type 0} (s : Spelling X) : Type 0 where
 abbrev pub image_of : {X : Type 0} → Spelling X → List X → List ℕ
 image_of s items = flat_map s.packed items
 
--- how many bytes lie before a place
+-- how many bytes lie before an index
 abbrev pub offset_of : {X : Type 0} → Spelling X → List X → ℕ → ℕ
 offset_of s items place = length (image_of s (take place items))
 

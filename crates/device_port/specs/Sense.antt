@@ -6,7 +6,7 @@ use Rattle.std.specs.Prelude.{ℕ}
 abbrev pub no_sense : ℕ
 no_sense = 0
 
--- the command, or its place in the program, is not one that the device takes
+-- the command, or its position in the program, is not one that the device takes
 abbrev pub command_reject : ℕ
 command_reject = 0x8000
 

@@ -7,7 +7,7 @@ use io_images::{SubStatus, UnitStatus};
 /// The sense of a command that ended without unit check.
 const NO_SENSE: u16 = 0;
 
-/// Sense byte 0: the command, or its place in the program, is not one that the device takes.
+/// Sense byte 0: the command, or its position in the program, is not one that the device takes.
 pub const COMMAND_REJECT: u16 = 0x8000;
 /// Sense byte 0: the operator has to do something first, as to put paper in.
 pub const INTERVENTION_REQUIRED: u16 = 0x4000;

@@ -33,7 +33,7 @@ pub trait Device: Drop {
     fn fits(&self, seek: &Seek) -> bool
         ensures { result ≡ fits meaning self.now seek.now };
 
-    /// Which way the data of a command goes.
+    /// The direction of a command's data.
     fn flow(&self, command: u8) -> Flow
         ensures { result ≡ meaning.flow self.now command };
 

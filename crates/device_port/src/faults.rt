@@ -161,7 +161,7 @@ impl FaultScript {
         Some(self.done)
     }
 
-    /// Copies the fault script and its place: how many commands were counted. Fails only if memory runs out.
+    /// Copies the fault script and its position: how many commands were counted. Fails only if memory runs out.
     pub fn copy(&self) -> Result<Self, AllocError>
         ensures { IfOk result (λ s. s ≡ self.now) }
     {
@@ -171,6 +171,17 @@ impl FaultScript {
             done: self.done,
             clear: self.clear,
         })
+    }
+
+    /// Becomes the same as another fault script of this length, with its place. Never allocates.
+    pub fn copy_from(&mut self, from: &Self)
+        requires { length self.old.script ≡ length from.now.script }
+        ensures { self.new ≡ from.now }
+    {
+        self.faults.copy_from_slice(&from.faults);
+        self.next = from.next;
+        self.done = from.done;
+        self.clear = from.clear;
     }
 }
 
@@ -191,7 +202,7 @@ fn fault_met(faults: &[Fault], next: usize, done: u64) -> Option<Fault>
     }
 }
 
-/// The place of the next fault after a command that met this one, or did not.
+/// The index of the next fault after a command that met this one, or did not.
 fn place_behind(faults: &[Fault], next: usize, done: u64, met: &Option<Fault>) -> usize
     requires follows { Follows faults.now next done }
     requires met { met.now ≡ fault_met (record { script = faults.now; done = done }) }

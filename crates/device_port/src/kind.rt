@@ -11,7 +11,7 @@ pub enum Kind {
     Printer,
 }
 
-/// Which way the data of a command goes (Principles of Operation, chapter 15, "Commands").
+/// The direction of a command's data (Principles of Operation, chapter 15, "Commands").
 #[derive(Clone, Copy, PartialEq, Eq, Debug)]
 pub enum Flow {
     /// The command moves no data: a control command.

@@ -8,6 +8,7 @@ mod answer;
 mod chain;
 mod device;
 mod faults;
+mod fixed_size;
 mod given;
 mod image;
 mod kind;
@@ -21,6 +22,7 @@ pub use answer::{
 pub use chain::{Chain, MOST_SEGMENTS, Segment};
 pub use device::{Device, MountError};
 pub use faults::{Fault, FaultScript, is_script};
+pub use fixed_size::FixedSize;
 pub use given::Given;
 pub use image::{fill_at, put_at};
 pub use kind::{Flow, Kind};

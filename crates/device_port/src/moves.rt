@@ -69,7 +69,7 @@ pub fn gather(segments: &[Segment], area: &Area, into: &mut [u8])
     into[at..].fill(0);
 }
 
-/// Puts the bytes of one part at a place, up to the room that there is, and returns the place after them.
+/// Puts the bytes of one part at an offset, up to the room that there is, and returns the offset after them.
 fn gather_part(area: &Area, segment: &Segment, into: &mut [u8], at: usize) -> usize
     requires within { at ≤ length into.old }
     requires lies { lies_in area.now segment.now.address segment.now.count ≡ true }

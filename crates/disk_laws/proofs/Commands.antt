@@ -10,7 +10,7 @@ use Rattle.device_port.specs.Faults.{fault_met, counted}
 use Rattle.device_port.specs.Meaning.{Outcome}
 use Rattle.ckd_disk.specs.declared.command.Command.{Command}
 use Rattle.ckd_disk.specs.declared.command.Command.TheVariants.{Control, Read, Write}
-use Rattle.ckd_disk.specs.declared.command.Control.TheVariants as control
+use Rattle.ckd_disk.specs.declared.command.ControlCommand.TheVariants as control
 use Rattle.ckd_disk.specs.declared.command.Read.TheVariants as read
 use Rattle.ckd_disk.specs.declared.command.Write.TheVariants as write
 use Rattle.ckd_disk.specs.Record.{Record, packed, size_at}

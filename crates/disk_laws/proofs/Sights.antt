@@ -10,7 +10,7 @@ use Rattle.device_port.specs.Moves.{offered, received}
 use Rattle.device_port.specs.Sense.{command_reject, file_protected}
 use Rattle.ckd_disk.specs.declared.command.Command.{Command}
 use Rattle.ckd_disk.specs.declared.command.Command.TheVariants.{Control, Read, Write}
-use Rattle.ckd_disk.specs.declared.command.Control.TheVariants as control
+use Rattle.ckd_disk.specs.declared.command.ControlCommand.TheVariants as control
 use Rattle.ckd_disk.specs.declared.command.Read.TheVariants as read
 use Rattle.ckd_disk.specs.declared.command.Write.TheVariants as write
 use Rattle.ckd_disk.specs.Track.{TrackState}

@@ -45,6 +45,7 @@ module _ {D : Type 0} (meaning : Meaning D) where
   abbrev pub program_after : ProcessingMethod → D → Seek → ℕ → Storage → ℕ → Program D
   program_after method d seek start area commands = after meaning commands (begun start (meaning.prefix d seek (mask_for method)) area)
 
+  -- the device after that program
   abbrev pub device_left : ProcessingMethod → D → Seek → ℕ → Storage → ℕ → D
   device_left method d seek start area commands = (program_after method d seek start area commands).device
 

@@ -20,10 +20,12 @@ unit_tracks (Disk d) = d.tracks
 unit_tracks (Tape t) = []
 unit_tracks (Printer p) = []
 
+-- the track under the heads of a disk, and 0 of a tape and of a printer
 abbrev pub unit_position : AnyDevice → ℕ
 unit_position (Disk d) = d.track
 unit_position (Tape t) = 0
 unit_position (Printer p) = 0
 
+-- the tracks and the position of the device of a unit
 abbrev pub unit_view : View AnyDevice
 unit_view = record { tracks = unit_tracks; position = unit_position }

@@ -2,7 +2,6 @@
 use Rattle.std.specs.Prelude.{ℕ, Bool, true, false, Option, Some, None}
 use Rattle.io_images.specs.Codes.{code_byte}
 use Rattle.request_piece.specs.declared.piece.Name.{Name}
-use Rattle.unit_book.specs.declared.answer.Closing.{Closing}
 use Rattle.unit_book.specs.declared.answer.Closing.TheVariants as closing
 use Rattle.unit_book.specs.declared.answer.Delivery.{Delivery}
 use Rattle.unit_book.specs.declared.answer.Delivery.TheVariants as delivery
@@ -10,12 +9,15 @@ use Rattle.unit_book.specs.declared.answer.Intake.{Intake}
 use Rattle.unit_book.specs.declared.answer.Intake.TheVariants as intake
 use Rattle.unit_book.specs.declared.answer.Interruption.{Interruption}
 use Rattle.unit_book.specs.declared.answer.Interruption.TheVariants as interruption
-use Rattle.unit_book.specs.declared.answer.Purging.{Purging}
 use Rattle.unit_book.specs.declared.answer.Purging.TheVariants as purging
 use Rattle.unit_book.specs.declared.answer.Running.{Running}
 use Rattle.unit_book.specs.declared.answer.Running.TheVariants as running
 use Rattle.unit_book.specs.declared.answer.Starting.{Starting}
 use Rattle.unit_book.specs.declared.answer.Starting.TheVariants as starting
+use Rattle.unit_book.specs.declared.control.Controlling.{Controlling}
+use Rattle.unit_book.specs.declared.control.Controlling.TheVariants as controlling
+use Rattle.unit_book.specs.declared.step.UnitAnswer.{UnitAnswer}
+use Rattle.unit_book.specs.declared.step.UnitAnswer.TheVariants as answer
 use Rattle.excp_site.specs.Sites.{SiteView, number_of}
 use Rattle.excp_c.specs.declared.answer.Answer.{Answer}
 use Rattle.excp_c.specs.declared.answer.Event.{Event}
@@ -58,13 +60,20 @@ of_delivery delivery.Quiet = plain_event 0
 of_delivery (delivery.Delivered name) = naming 11 name
 of_delivery (delivery.Full name) = naming 12 name
 
-abbrev pub of_purging : Purging → Event
-of_purging purging.Quiet = plain_event 0
-of_purging (purging.Active name) = naming 13 name
+-- C is not shown what a reset did
+abbrev pub of_controlling : Controlling → Event
+of_controlling (controlling.Purged purging.Quiet) = plain_event 0
+of_controlling (controlling.Purged (purging.Active name)) = naming 13 name
+of_controlling (controlling.Closed closing.Closed) = plain_event 14
+of_controlling (controlling.Closed (closing.Closing name)) = naming 15 name
+of_controlling controlling.Reset = plain_event 0
 
-abbrev pub of_closing : Closing → Event
-of_closing closing.Closed = plain_event 14
-of_closing (closing.Closing name) = naming 15 name
+-- what a step did
+abbrev pub of_answer : UnitAnswer → Event
+of_answer (answer.Started a) = of_starting a
+of_answer (answer.Ran a) = of_running a
+of_answer (answer.Interrupted a) = of_interruption a
+of_answer (answer.Controlled a) = of_controlling a
 
 -- the number and the task of the request that an event of a unit names, or 0
 abbrev pub number_named : SiteView → ℕ → Option Name → ℕ

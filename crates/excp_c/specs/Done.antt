@@ -6,31 +6,25 @@ use Rattle.any_device.specs.Devices.{any_device}
 use Rattle.any_device.specs.declared.device.AnyDevice.{AnyDevice}
 use Rattle.request_piece.specs.PostedState.{PostedState}
 use Rattle.request_piece.specs.declared.piece.Name.{Name}
-use Rattle.request_piece.specs.declared.scope.Scope.TheVariants as Scope
-use Rattle.unit_book.specs.Answers.{Adds, InterruptsBook, OpensBook, RunsBook, StartsBook}
-use Rattle.unit_book.specs.Controls.{ClosesBook, PurgesBook}
-use Rattle.unit_book.specs.declared.answer.Closing.{Closing}
+use Rattle.unit_book.specs.Answers.{OpensBook}
+use Rattle.unit_book.specs.Steps.{StepsBook}
+use Rattle.unit_book.specs.declared.step.UnitAnswer.{UnitAnswer}
+use Rattle.unit_book.specs.declared.step.UnitStep.{UnitStep}
 use Rattle.unit_book.specs.declared.answer.Delivery.{Delivery}
 use Rattle.unit_book.specs.declared.answer.Intake.{Intake}
-use Rattle.unit_book.specs.declared.answer.Interruption.{Interruption}
-use Rattle.unit_book.specs.declared.answer.Purging.{Purging}
-use Rattle.unit_book.specs.declared.answer.Running.{Running}
-use Rattle.unit_book.specs.declared.answer.Starting.{Starting}
 use Rattle.unit_book.specs.declared.dcb.ProcessingMethod.{ProcessingMethod}
-use Rattle.unit_book.specs.declared.entry.Entry.TheVariants as Entry
-use Rattle.unit_book.specs.declared.entry.Mode.{Mode}
 use Rattle.unit_book.specs.Settle.{IsIdle}
 use Rattle.unit_world.specs.Parts.{PartTakes}
 use Rattle.unit_world.specs.PostLists.{list_of}
-use Rattle.unit_world.specs.Sites.{CollectsPost, DeliversAs, OnBook, OnUnit}
+use Rattle.unit_world.specs.Sites.{SiteState, CollectsPost, DeliversAs, OnBook, OnUnit}
 use Rattle.excp_site.specs.Media.{IsEmpty}
 use Rattle.excp_site.specs.declared.refusal.Refusal.{Refusal}
-use Rattle.excp_site.specs.declared.refusal.Refusal.TheVariants.{NoMemory}
+use Rattle.excp_site.specs.declared.refusal.Refusal.TheVariants.{BadNumber, NoMemory}
 use Rattle.excp_site.specs.Serving.{HasSettled, IsServedFor}
 use Rattle.excp_site.specs.declared.served.Served.{Served}
 use Rattle.excp_site.specs.Extents.{extents_in}
 use Rattle.excp_site.specs.Reasons.{LeavesReason, has_reason}
-use Rattle.excp_site.specs.Refusals.{ExtentsRefused, OpenCallLeaves, OpenCallRefused}
+use Rattle.excp_site.specs.Refusals.{ExtentsRefused, HasTaskOf, OpenCallLeaves, OpenCallRefused, StepCallRefused}
 use Rattle.excp_site.specs.Sites.{AddsUnit, HasPart, IssuesRequest, MakesSite, NewRefused, SiteView, number_of}
 use Rattle.excp_c.specs.Answers.{answer_in_c}
 use Rattle.excp_c.specs.Numbers.{end_number}
@@ -107,32 +101,19 @@ NotOpened s t unit bytes e = (ExtentsRefused bytes e × LeavesReason s t e)
 abbrev pub SiteTakes : ℕ → SiteView → Intake → SiteView → Type 0
 SiteTakes unit s a t = OnUnit s.plain unit (λ p q. PartTakes any_device p a q) t.plain × OnlyPlain s t
 
-abbrev pub SiteStarts : ℕ → SiteView → Starting → SiteView → Type 0
-SiteStarts unit s a t = OnBook s.plain unit (λ b c. StartsBook any_device b a c) t.plain × OnlyPlain s t
+-- a step by its numbers
+abbrev pub SiteSteps : ℕ → Option UnitStep → SiteView → UnitAnswer → SiteView → Type 0
+SiteSteps unit None s a t = ⊥
+SiteSteps unit (Some step) s a t =
+    OnBook s.plain unit (λ b c. StepsBook any_device b step a c) t.plain × HasTaskOf s.plain step × OnlyPlain s t
 
-abbrev pub SiteRuns : ℕ → ℕ → SiteView → Running → SiteView → Type 0
-SiteRuns unit max s a t = (1 ≤ max) × OnBook s.plain unit (λ b c. RunsBook any_device b max a c) t.plain × OnlyPlain s t
-
-abbrev pub SiteInterrupts : ℕ → SiteView → Interruption → SiteView → Type 0
-SiteInterrupts unit s a t = OnBook s.plain unit (λ b c. InterruptsBook any_device b a c) t.plain × OnlyPlain s t
+-- why it is refused: the numbers are of no step, or the site refuses it
+abbrev pub NumberedRefused : SiteState AnyDevice → ℕ → Option UnitStep → Refusal → Type 0
+NumberedRefused s unit None e = e ≡ BadNumber
+NumberedRefused s unit (Some step) e = StepCallRefused s unit step e
 
 abbrev pub SiteDelivers : ℕ → SiteView → Delivery → SiteView → Type 0
 SiteDelivers unit s a t = (unit < length s.plain.units) × DeliversAs s.plain unit a t.plain × OnlyPlain s t
-
--- THE CONTROLS of a unit
-abbrev pub Purges : ℕ → ℕ → Option Mode → SiteView → Purging → SiteView → Type 0
-Purges unit dcb None s a t = ⊥
-Purges unit dcb (Some mode) s a t = OnBook s.plain unit (λ b c. PurgesBook any_device b (Scope.Dcb dcb) mode a c) t.plain × OnlyPlain s t
-
-abbrev pub PurgesTask : ℕ → ℕ → Option Mode → SiteView → Purging → SiteView → Type 0
-PurgesTask unit task None s a t = ⊥
-PurgesTask unit task (Some mode) s a t = OnBook s.plain unit (λ b c. PurgesBook any_device b (Scope.Task task) mode a c) t.plain × OnlyPlain s t
-
-abbrev pub Closes : ℕ → ℕ → SiteView → Closing → SiteView → Type 0
-Closes unit dcb s a t = OnBook s.plain unit (λ b c. ClosesBook any_device b dcb a c) t.plain × OnlyPlain s t
-
-abbrev pub Resets : ℕ → ℕ → SiteView → SiteView → Type 0
-Resets unit dcb s t = OnBook s.plain unit (λ b c. Adds b (Entry.Reset dcb) c) t.plain × OnlyPlain s t
 
 -- A DCB was opened
 abbrev pub SiteOpens : ℕ → Option ProcessingMethod → List Extent → ℕ → SiteView → SiteView → Type 0

@@ -1,11 +1,13 @@
 //! What C sees of the answer of a unit: `excp_answer` of c/excp.h.
 
 ghost use Rattle.std.specs.Prelude.{◌≡◌};
-ghost use Rattle.excp_c.specs.Answers.{answer_in_c, naming, number_named, of_closing, of_delivery, of_intake, of_interruption, of_purging, of_running, of_starting, plain_event};
+ghost use Rattle.excp_c.specs.Answers.{answer_in_c, naming, number_named, of_answer, of_controlling, of_delivery, of_intake, of_interruption, of_running, of_starting, plain_event};
 
 use excp_site::Site;
 use request_piece::Name;
-use unit_book::{Closing, Delivery, Intake, Interruption, Purging, Running, Starting};
+use unit_book::{
+    Closing, Controlling, Delivery, Intake, Interruption, Purging, Running, Starting, UnitAnswer,
+};
 
 /// `excp_answer`.
 #[repr(C)]
@@ -85,44 +87,15 @@ impl From<Intake> for Event {
     }
 }
 
-impl From<Starting> for Event {
-    ghost from_gives = { λ answer event. event ≡ of_starting answer };
+impl From<UnitAnswer> for Event {
+    ghost from_gives = { λ answer event. event ≡ of_answer answer };
 
-    fn from(answer: Starting) -> Event {
+    fn from(answer: UnitAnswer) -> Event {
         match answer {
-            Starting::Busy => Event::plain(3),
-            Starting::Idle => Event::plain(4),
-            Starting::Started(name) => Event::naming(5, name),
-            Starting::Violated(name) => Event::naming(6, name),
-        }
-    }
-}
-
-impl From<Running> for Event {
-    ghost from_gives = { λ answer event. event ≡ of_running answer };
-
-    fn from(answer: Running) -> Event {
-        match answer {
-            Running::Quiet => Event::plain(0),
-            Running::Ran { commands, pending } => Event {
-                commands,
-                ..Event::plain(if pending { 8 } else { 7 })
-            },
-        }
-    }
-}
-
-impl From<Interruption> for Event {
-    ghost from_gives = { λ answer event. event ≡ of_interruption answer };
-
-    fn from(answer: Interruption) -> Event {
-        match answer {
-            Interruption::Quiet => Event::plain(0),
-            Interruption::Again(name) => Event::naming(9, name),
-            Interruption::Ended(name, code) => Event {
-                code: code.byte(),
-                ..Event::naming(10, name)
-            },
+            UnitAnswer::Started(answer) => of_starting(answer),
+            UnitAnswer::Ran(answer) => of_running(answer),
+            UnitAnswer::Interrupted(answer) => of_interruption(answer),
+            UnitAnswer::Controlled(answer) => of_controlling(answer),
         }
     }
 }
@@ -139,24 +112,53 @@ impl From<Delivery> for Event {
     }
 }
 
-impl From<Purging> for Event {
-    ghost from_gives = { λ answer event. event ≡ of_purging answer };
-
-    fn from(answer: Purging) -> Event {
-        match answer {
-            Purging::Quiet => Event::plain(0),
-            Purging::Active(name) => Event::naming(13, name),
-        }
+/// What a start did.
+fn of_starting(answer: Starting) -> Event
+    ensures { result ≡ of_starting answer }
+{
+    match answer {
+        Starting::Busy => Event::plain(3),
+        Starting::Idle => Event::plain(4),
+        Starting::Started(name) => Event::naming(5, name),
+        Starting::Violated(name) => Event::naming(6, name),
     }
 }
 
-impl From<Closing> for Event {
-    ghost from_gives = { λ answer event. event ≡ of_closing answer };
+/// What a run did.
+fn of_running(answer: Running) -> Event
+    ensures { result ≡ of_running answer }
+{
+    match answer {
+        Running::Quiet => Event::plain(0),
+        Running::Ran { commands, pending } => Event {
+            commands,
+            ..Event::plain(if pending { 8 } else { 7 })
+        },
+    }
+}
 
-    fn from(answer: Closing) -> Event {
-        match answer {
-            Closing::Closed => Event::plain(14),
-            Closing::Closing(name) => Event::naming(15, name),
-        }
+/// What an interruption did.
+fn of_interruption(answer: Interruption) -> Event
+    ensures { result ≡ of_interruption answer }
+{
+    match answer {
+        Interruption::Quiet => Event::plain(0),
+        Interruption::Again(name) => Event::naming(9, name),
+        Interruption::Ended(name, code) => Event {
+            code: code.byte(),
+            ..Event::naming(10, name)
+        },
+    }
+}
+
+/// What a control did. C is not shown that of a reset.
+fn of_controlling(answer: Controlling) -> Event
+    ensures { result ≡ of_controlling answer }
+{
+    match answer {
+        Controlling::Purged(Purging::Quiet) | Controlling::Reset => Event::plain(0),
+        Controlling::Purged(Purging::Active(name)) => Event::naming(13, name),
+        Controlling::Closed(Closing::Closed) => Event::plain(14),
+        Controlling::Closed(Closing::Closing(name)) => Event::naming(15, name),
     }
 }

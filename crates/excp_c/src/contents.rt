@@ -10,7 +10,7 @@ ghost use Rattle.excp_c.specs.Contents.{byte_at, halfword_at, item_in_c, line_in
 use crate::buffer::{copy_both, copy_to, has_room};
 use crate::handle::Handle;
 use crate::status::{NO_SITE, OK, status_in_c};
-use ckd_disk::Stored;
+use ckd_disk::StoredRecord;
 use excp_site::Refusal;
 use line_printer::PrintedLine;
 use tape_unit::Stored as StoredItem;
@@ -59,7 +59,7 @@ fn halfword_at(bytes: &[u8], place: u8) -> u16
 }
 
 /// A record as C sees it.
-fn record_in_c(stored: &Stored<'_>) -> Record
+fn record_in_c(stored: &StoredRecord<'_>) -> Record
     ensures { result ≡ record_in_c stored.now }
 {
     let id = stored.id();

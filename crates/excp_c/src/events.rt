@@ -1,21 +1,21 @@
-//! Events (c/excp.h, "Events").
+//! Events and controls (c/excp.h, "Events" and "Controls").
 
 ghost use Rattle.std.specs.Prelude.{◌≡◌, ◌≢◌, ◌<◌};
-ghost use Rattle.any_device.specs.Devices.{any_device};
 ghost use Rattle.unit_book.specs.Book.{occupancy};
-ghost use Rattle.unit_book.specs.Refusals.{InterruptLacks, StartLacks};
-ghost use Rattle.excp_site.specs.Refusals.{RunRefused, UnitRefused};
+ghost use Rattle.excp_site.specs.Refusals.{UnitRefused};
 ghost use Rattle.excp_site.specs.Serving.{HasSettled, ServeRefused, SettleRefused};
 ghost use Rattle.excp_site.specs.Sites.{IssueCallRefused};
-ghost use Rattle.excp_c.specs.Answers.{of_delivery, of_intake, of_interruption, of_running, of_starting};
-ghost use Rattle.excp_c.specs.Done.{SiteDelivers, Did, SiteInterrupts, IssuesAs, Made, OnlyPlain, Refused, RefusedAs, SiteRuns, SiteServes, SiteSettles, SiteStarts, SiteTakes};
+ghost use Rattle.excp_c.specs.Answers.{of_answer, of_delivery, of_intake};
+ghost use Rattle.excp_c.specs.Done.{SiteDelivers, Did, IssuesAs, Made, NumberedRefused, OnlyPlain, Refused, RefusedAs, SiteServes, SiteSettles, SiteSteps, SiteTakes};
 ghost use Rattle.excp_c.specs.Calls.{KeepsSite, SameSite, TestsSite};
-ghost use Rattle.excp_c.specs.Numbers.{end_number};
+ghost use Rattle.excp_c.specs.Numbers.{control_from_c, end_number, mode_from_c, step_from_c};
 
 use crate::answer::{Answer, Event};
 use crate::handle::Handle;
 use crate::status::{NO_SITE, OK, done, status_in_c};
-use excp_site::ServedEnd;
+use excp_site::{Refusal, ServedEnd};
+use request_piece::Scope;
+use unit_book::{Control, Mode, UnitStep};
 
 /// `excp_served`.
 #[repr(C)]
@@ -92,71 +92,74 @@ pub extern "C" fn excp_call_take(handle: &mut Handle, unit: u16, answer: &mut An
     }
 }
 
-/// `excp_start`.
-#[unsafe(no_mangle)]
-pub extern "C" fn excp_call_start(handle: &mut Handle, unit: u16, answer: &mut Answer) -> u32
-    ensures site { TestsSite handle.old result }
-    ensures keeps { KeepsSite handle.old handle.new }
-    ensures done { result ≡ 0 → Made of_starting unit (SiteStarts unit) handle.old handle.new answer.new }
-    ensures why { result ≢ 0 → result ≢ 3 → Refused handle.old handle.new result (λ s _. UnitRefused s.plain unit (StartLacks any_device)) }
-    ensures refused { result ≢ 0 → SameSite handle.old handle.new × (answer.new ≡ answer.old) }
+/// The step of a kind: 0 start, 1 run of `number` commands, 2 interrupt, and those of `control_from_c`.
+fn step_from_c(kind: u8, number: u32, mode: u8) -> Option<UnitStep>
+    ensures { result ≡ step_from_c kind number mode }
 {
-    let Some(site) = handle.site() else {
-        return NO_SITE;
-    };
-    match site.start(unit) {
-        Ok(did) => {
-            *answer = Event::from(did).answer(site, unit);
-            OK
-        }
-        Err(refusal) => status_in_c(refusal),
+    match kind {
+        0 => Some(UnitStep::Start),
+        1 => Some(UnitStep::Run(number)),
+        2 => Some(UnitStep::Interrupt),
+        _ => Some(UnitStep::Control(control_from_c(kind, number, mode)?)),
     }
 }
 
-/// `excp_run`.
+/// The control of a kind: 3 purge of the DCB `number` and 4 of the task `number`, by `mode`; 5 close and 6 reset of the DCB `number`.
+fn control_from_c(kind: u8, number: u32, mode: u8) -> Option<Control>
+    ensures { result ≡ control_from_c kind number mode }
+{
+    let Ok(number) = u16::try_from(number) else {
+        return None;
+    };
+    match kind {
+        3 => Some(Control::Purge(Scope::Dcb(number), mode_from_c(mode)?)),
+        4 => Some(Control::Purge(Scope::Task(number), mode_from_c(mode)?)),
+        5 => Some(Control::Close(number)),
+        6 => Some(Control::Reset(number)),
+        _ => None,
+    }
+}
+
+/// The mode with this number, `EXCP_QUIESCE` or `EXCP_HALT`.
+fn mode_from_c(number: u8) -> Option<Mode>
+    ensures { result ≡ mode_from_c number }
+{
+    match number {
+        0 => Some(Mode::Quiesce),
+        1 => Some(Mode::Halt),
+        _ => None,
+    }
+}
+
+/// The step of the kind `kind` (`step_from_c`), for `excp_start`, `excp_run`, `excp_interrupt`, `excp_purge`, `excp_purge_task`,
+/// `excp_close` and `excp_reset`.
 #[unsafe(no_mangle)]
-pub extern "C" fn excp_call_run(
+pub extern "C" fn excp_call_step(
     handle: &mut Handle,
     unit: u16,
-    max_commands: u32,
+    kind: u8,
+    number: u32,
+    mode: u8,
     answer: &mut Answer,
 ) -> u32
     ensures site { TestsSite handle.old result }
     ensures keeps { KeepsSite handle.old handle.new }
-    ensures done { result ≡ 0 → Made of_running unit (SiteRuns unit max_commands) handle.old handle.new answer.new }
-    ensures why { result ≢ 0 → result ≢ 3 → Refused handle.old handle.new result (λ s _. RunRefused s.plain unit max_commands) }
+    ensures done { result ≡ 0 → Made of_answer unit (SiteSteps unit (step_from_c kind number mode)) handle.old handle.new answer.new }
+    ensures why { result ≢ 0 → result ≢ 3 → Refused handle.old handle.new result (λ s _. NumberedRefused s.plain unit (step_from_c kind number mode)) }
     ensures refused { result ≢ 0 → SameSite handle.old handle.new × (answer.new ≡ answer.old) }
 {
     let Some(site) = handle.site() else {
         return NO_SITE;
     };
-    match site.run(unit, max_commands) {
-        Ok(did) => {
-            *answer = Event::from(did).answer(site, unit);
-            OK
-        }
-        Err(refusal) => status_in_c(refusal),
-    }
-}
-
-/// `excp_interrupt`.
-#[unsafe(no_mangle)]
-pub extern "C" fn excp_call_interrupt(handle: &mut Handle, unit: u16, answer: &mut Answer) -> u32
-    ensures site { TestsSite handle.old result }
-    ensures keeps { KeepsSite handle.old handle.new }
-    ensures done { result ≡ 0 → Made of_interruption unit (SiteInterrupts unit) handle.old handle.new answer.new }
-    ensures why { result ≢ 0 → result ≢ 3 → Refused handle.old handle.new result (λ s _. UnitRefused s.plain unit (InterruptLacks any_device)) }
-    ensures refused { result ≢ 0 → SameSite handle.old handle.new × (answer.new ≡ answer.old) }
-{
-    let Some(site) = handle.site() else {
-        return NO_SITE;
-    };
-    match site.interrupt(unit) {
-        Ok(did) => {
-            *answer = Event::from(did).answer(site, unit);
-            OK
-        }
-        Err(refusal) => status_in_c(refusal),
+    match step_from_c(kind, number, mode) {
+        Some(step) => match site.step(unit, step) {
+            Ok(did) => {
+                *answer = Event::from(did).answer(site, unit);
+                OK
+            }
+            Err(refusal) => status_in_c(refusal),
+        },
+        None => status_in_c(Refusal::BadNumber),
     }
 }
 

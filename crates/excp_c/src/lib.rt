@@ -1,11 +1,10 @@
-//! The exports that c/excp.c calls: one for each function of c/excp.h, under the name `excp_call_X` for `excp_X`.
+//! The exports that c/excp.c calls: `excp_call_step` for the steps of a unit, and `excp_call_X` for each other `excp_X` of c/excp.h.
 #![tactic(auto)]
 
 mod answer;
 mod buffer;
 mod channels;
 mod contents;
-mod controls;
 mod dcbs;
 mod entries;
 mod events;

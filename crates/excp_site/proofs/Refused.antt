@@ -11,25 +11,43 @@ use Rattle.std.specs.declared.result.Result.TheVariants.{Ok, Err}
 use Rattle.any_device.specs.declared.device.AnyDevice.{AnyDevice}
 use Rattle.unit_book.specs.declared.answer.DcbError.{DcbError}
 use Rattle.unit_book.specs.declared.answer.DcbError.TheVariants as dcbs
-use Rattle.unit_book.specs.Book.{Book}
+use Rattle.any_device.specs.Devices.{any_device}
+use Rattle.unit_book.specs.Steps.{StepLacks, StepRefused}
+use Rattle.request_piece.specs.declared.scope.Scope.TheVariants.{Dcb, Task}
+use Rattle.unit_book.specs.declared.control.Control.TheVariants as control
+use Rattle.unit_book.specs.declared.step.UnitStep.{UnitStep}
+use Rattle.unit_book.specs.declared.step.UnitStep.TheVariants as step
 use Rattle.unit_world.specs.Sites.{SiteState, OnPart}
-use Rattle.excp_site.specs.Refusals.{DcbCallRefused, of_dcb}
+use Rattle.excp_site.specs.Refusals.{HasNumbersOf, NumbersRefused, StepCallRefused, of_dcb}
 use Rattle.excp_site.specs.Sites.{SiteView}
 use Rattle.excp_site.specs.declared.refusal.Refusal.{Refusal}
-use Rattle.excp_site.specs.declared.refusal.Refusal.TheVariants.{NoDcb, NoMemory}
+use Rattle.excp_site.specs.declared.refusal.Refusal.TheVariants.{BadNumber, NoDcb, NoMemory, NoTask}
 
 pub refuses : {X : Type 0} (r : Result X Refusal) (e : Refusal) (P : Refusal → Type 0) → IsErrAnd r (λ f. f ≡ e) → P e → IfErr r P
 refuses (Ok x) e P h p = tt
 refuses (Err f) e P h p = subst P (sym h) p
 
-pub dcb-refuses : {X : Type 0} (r : Result X Refusal) (error : DcbError) (s : SiteState AnyDevice) (unit : ℕ)
-    (Refused : Book AnyDevice → DcbError → Type 0) (Lacks : Book AnyDevice → Type 0) → IsErrAnd r (λ f. f ≡ of_dcb error) →
-    unit < length s.units → OnPart s unit (λ p. Refused p.book error) → OnPart s unit (λ p. error ≡ dcbs.NoMemory → Lacks p.book) →
-    IfErr r (DcbCallRefused s unit Refused Lacks)
-dcb-refuses r dcbs.NoSuchDcb s unit Refused Lacks h there refused full =
-    refuses r NoDcb (DcbCallRefused s unit Refused Lacks) h (there, refused)
-dcb-refuses r dcbs.NoMemory s unit Refused Lacks h there refused full =
-    refuses r NoMemory (DcbCallRefused s unit Refused Lacks) h (there, λ p at. (refused p at, full p at refl))
+pub step-refuses : {X : Type 0} (r : Result X Refusal) (error : DcbError) (s : SiteState AnyDevice) (unit : ℕ) (t : UnitStep) →
+    IsErrAnd r (λ f. f ≡ of_dcb error) → HasNumbersOf s t → unit < length s.units → OnPart s unit (λ p. StepRefused p.book t error) →
+    OnPart s unit (λ p. error ≡ dcbs.NoMemory → StepLacks any_device p.book t) → IfErr r (StepCallRefused s unit t)
+step-refuses r dcbs.NoSuchDcb s unit t h numbers there refused full =
+    refuses r NoDcb (StepCallRefused s unit t) h (numbers, (there, refused))
+step-refuses r dcbs.NoMemory s unit t h numbers there refused full =
+    refuses r NoMemory (StepCallRefused s unit t) h (numbers, (there, λ p at. (refused p at, full p at refl)))
+
+-- the numbers of a step are refused as the step is
+pub numbers-refuse : {X : Type 0} (r : Result X Refusal) (error : Refusal) (s : SiteState AnyDevice) (unit : ℕ) (t : UnitStep) →
+    IsErrAnd r (λ f. f ≡ error) → unit < length s.units → NumbersRefused s t error → IfErr r (StepCallRefused s unit t)
+numbers-refuse r error s unit t h there why = refuses r error (StepCallRefused s unit t) h (of t why) where
+  of : (u : UnitStep) → NumbersRefused s u error → StepCallRefused s unit u error
+  of (step.Run max) why = subst (StepCallRefused s unit (step.Run max)) (sym why.0) (there, (refl, why.1))
+  of (step.Control (control.Purge (Task task) mode)) why =
+      subst (StepCallRefused s unit (step.Control (control.Purge (Task task) mode))) (sym why.0) (there, (refl, why.1))
+  of (step.Control (control.Purge (Dcb dcb) mode)) why = elim why [ ]
+  of (step.Control (control.Close dcb)) why = elim why [ ]
+  of (step.Control (control.Reset dcb)) why = elim why [ ]
+  of step.Start why = elim why [ ]
+  of step.Interrupt why = elim why [ ]
 
 -- a list without a first item
 pub no-first : {X : Type 0} (xs : List X) → slice_get xs 0 ≡ None → xs ≡ []

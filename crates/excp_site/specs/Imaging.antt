@@ -4,12 +4,12 @@ use Rattle.device_port.specs.Faults.{is_script}
 use Rattle.ckd_disk.specs.Volume.{mounted_volume}
 use Rattle.ckd_image.specs.Loading.{FailsImage, IsFault, Loaded}
 use Rattle.ckd_image.specs.declared.fault.CkdError.{CkdError}
-use Rattle.ckd_image.specs.declared.kept.Image.{Image as DiskImage}
+use Rattle.ckd_image.specs.declared.kept.DiskImage.{DiskImage}
 use Rattle.tape_unit.specs.Mount.{wound}
 use Rattle.tape_unit.specs.Recording.{is_recordable}
 use Rattle.aws_tape.specs.Reading.{IsOfImage, read_image}
 use Rattle.aws_tape.specs.declared.fault.AwsError.{AwsError}
-use Rattle.aws_tape.specs.declared.image.Image.{Image as TapeImage}
+use Rattle.aws_tape.specs.declared.image.TapeImage.{TapeImage}
 use Rattle.any_device.specs.declared.device.AnyDevice.{AnyDevice}
 use Rattle.any_device.specs.declared.device.AnyDevice.TheVariants as device
 use Rattle.medium_image.specs.Saving.{IsNoModel, IsSameImage, KeepsItems, LoadsAgain, SavesMedium}

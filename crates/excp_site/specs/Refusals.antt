@@ -7,6 +7,7 @@ use Rattle.io_area.specs.declared.error.AreaError.{AreaError}
 use Rattle.io_area.specs.declared.error.AreaError.TheVariants as areas
 use Rattle.request_piece.specs.declared.error.RequestError.{RequestError}
 use Rattle.request_piece.specs.declared.error.RequestError.TheVariants as requests
+use Rattle.request_piece.specs.declared.scope.Scope.TheVariants.{Task}
 use Rattle.unit_book.specs.declared.answer.OpenError.{OpenError}
 use Rattle.unit_book.specs.declared.answer.OpenError.TheVariants as openings
 use Rattle.unit_book.specs.declared.answer.DcbError.{DcbError}
@@ -15,7 +16,10 @@ use Rattle.any_device.specs.declared.device.AnyDevice.{AnyDevice}
 use Rattle.any_device.specs.Devices.{any_device}
 use Rattle.unit_book.specs.Answers.{OpenRefused}
 use Rattle.unit_book.specs.Book.{Book}
-use Rattle.unit_book.specs.Refusals.{PurgeLacks, RunLacks}
+use Rattle.unit_book.specs.Steps.{IsStep, StepLacks, StepRefused}
+use Rattle.unit_book.specs.declared.control.Control.TheVariants as control
+use Rattle.unit_book.specs.declared.step.UnitStep.{UnitStep}
+use Rattle.unit_book.specs.declared.step.UnitStep.TheVariants as step
 use Rattle.unit_world.specs.PostLists.{list_of}
 use Rattle.unit_world.specs.Parts.{GrowsSpare}
 use Rattle.unit_world.specs.Sites.{SiteState, OnBook}
@@ -58,26 +62,30 @@ UnitRefused s unit Lacks NoUnit = length s.units ≤ unit
 UnitRefused s unit Lacks NoMemory = HasPart s unit (λ p. Lacks p.book)
 UnitRefused s unit Lacks _ = ⊥
 
--- A CALL OF A DCB: there is no such unit, or no such DCB, or memory ran out
-abbrev pub DcbCallRefused : SiteState AnyDevice → ℕ → (Book AnyDevice → DcbError → Type 0) → (Book AnyDevice → Type 0) → Refusal → Type 0
-DcbCallRefused s unit Refused Lacks NoUnit = length s.units ≤ unit
-DcbCallRefused s unit Refused Lacks NoDcb = HasPart s unit (λ p. Refused p.book dcbs.NoSuchDcb)
-DcbCallRefused s unit Refused Lacks NoMemory = HasPart s unit (λ p. Refused p.book dcbs.NoMemory × Lacks p.book)
-DcbCallRefused s unit Refused Lacks _ = ⊥
+-- the task of a step is there, if it is a purge of one
+abbrev pub HasTaskOf : SiteState AnyDevice → UnitStep → Type 0
+HasTaskOf s (step.Control (control.Purge (Task task) mode)) = task < length s.rows
+HasTaskOf s _ = Unit {0}
 
--- A RUN: or the number of commands is 0
-abbrev pub RunRefused : SiteState AnyDevice → ℕ → ℕ → Refusal → Type 0
-RunRefused s unit max NoUnit = length s.units ≤ unit
-RunRefused s unit max BadNumber = max ≡ 0
-RunRefused s unit max NoMemory = HasPart s unit (λ p. RunLacks any_device p.book)
-RunRefused s unit max _ = ⊥
+-- a step whose numbers are in range
+abbrev pub HasNumbersOf : SiteState AnyDevice → UnitStep → Type 0
+HasNumbersOf s t = IsStep t × HasTaskOf s t
 
--- A PURGE OF A TASK: or there is no such task
-abbrev pub TaskPurgeRefused : SiteState AnyDevice → ℕ → ℕ → Refusal → Type 0
-TaskPurgeRefused s unit task NoUnit = length s.units ≤ unit
-TaskPurgeRefused s unit task NoTask = length s.rows ≤ task
-TaskPurgeRefused s unit task NoMemory = HasPart s unit (λ p. PurgeLacks p.book)
-TaskPurgeRefused s unit task _ = ⊥
+-- a run of no command, or a purge of a task that is not there
+abbrev pub NumbersRefused : SiteState AnyDevice → UnitStep → Refusal → Type 0
+NumbersRefused s (step.Run max) e = (e ≡ BadNumber) × (max ≡ 0)
+NumbersRefused s (step.Control (control.Purge (Task task) mode)) e = (e ≡ NoTask) × (length s.rows ≤ task)
+NumbersRefused s t e = ⊥
+
+-- A STEP: there is no such unit, or a number of the step is wrong, or the book refuses it
+abbrev pub StepCallRefused : SiteState AnyDevice → ℕ → UnitStep → Refusal → Type 0
+StepCallRefused s unit t NoUnit = length s.units ≤ unit
+StepCallRefused s unit t BadNumber = (unit < length s.units) × NumbersRefused s t BadNumber
+StepCallRefused s unit t NoTask = (unit < length s.units) × NumbersRefused s t NoTask
+StepCallRefused s unit t NoDcb = HasNumbersOf s t × HasPart s unit (λ p. StepRefused p.book t dcbs.NoSuchDcb)
+StepCallRefused s unit t NoMemory =
+    HasNumbersOf s t × HasPart s unit (λ p. StepRefused p.book t dcbs.NoMemory × StepLacks any_device p.book t)
+StepCallRefused s unit t _ = ⊥
 
 -- A POST THAT IS NOT GIVEN: there is no such task, or none was delivered to it
 abbrev pub PostRefused : SiteState AnyDevice → ℕ → Refusal → Type 0

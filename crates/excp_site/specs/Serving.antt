@@ -1,9 +1,13 @@
 -- WHAT SERVING A UNIT LEAVES (profile).
-use Rattle.std.specs.Prelude.{◌≡◌, ◌≢◌, ◌≤◌, ◌<◌, ◌⊎◌, ◌+◌, ◌-◌, ℕ, [], length}
+use Rattle.std.specs.Prelude.{◌≡◌, ◌≢◌, ◌≤◌, ◌<◌, ◌⊎◌, ◌+◌, ◌-◌, ℕ, Bool, true, false, [], length}
 use Rattle.any_device.specs.Devices.{any_device}
 use Rattle.any_device.specs.declared.device.AnyDevice.{AnyDevice}
 use Rattle.request_piece.specs.declared.piece.Name.{Name}
-use Rattle.unit_book.specs.Answers.{InterruptsBook, RunsBook, StartsBook}
+use Rattle.unit_book.specs.Steps.{StepsBook}
+use Rattle.unit_book.specs.declared.step.UnitAnswer.{UnitAnswer}
+use Rattle.unit_book.specs.declared.step.UnitAnswer.TheVariants as answer
+use Rattle.unit_book.specs.declared.step.UnitStep.{UnitStep}
+use Rattle.unit_book.specs.declared.step.UnitStep.TheVariants as step
 use Rattle.unit_book.specs.Book.{occupancy}
 use Rattle.unit_book.specs.Refusals.{SettleLacks}
 use Rattle.unit_book.specs.Settle.{IsIdle}
@@ -11,11 +15,8 @@ use Rattle.unit_book.specs.declared.answer.Delivery.{Delivery}
 use Rattle.unit_book.specs.declared.answer.Delivery.TheVariants as delivery
 use Rattle.unit_book.specs.declared.answer.Intake.{Intake}
 use Rattle.unit_book.specs.declared.answer.Intake.TheVariants as intake
-use Rattle.unit_book.specs.declared.answer.Interruption.{Interruption}
 use Rattle.unit_book.specs.declared.answer.Interruption.TheVariants as interruption
-use Rattle.unit_book.specs.declared.answer.Running.{Running}
 use Rattle.unit_book.specs.declared.answer.Running.TheVariants as running
-use Rattle.unit_book.specs.declared.answer.Starting.{Starting}
 use Rattle.unit_book.specs.declared.answer.Starting.TheVariants as starting
 use Rattle.unit_world.specs.Parts.{UnitPart, IsFinishedPart, PartTakes}
 use Rattle.unit_world.specs.PostLists.{list_of}
@@ -43,28 +44,36 @@ pub record IsServed (s : SiteState AnyDevice) (unit : ℕ) : Type 0 where
   pub finished : OnPart s unit IsFinishedPart
   pub out : OnPart s unit (λ p. p.book.out ≡ [])
 
--- how many posts a delivery sends back, and how many commands a run does
+-- how many posts a delivery sends back, and how many commands a step does
 abbrev pub posts_sent : Delivery → ℕ
 posts_sent (delivery.Delivered name) = 1
 posts_sent _ = 0
 
-abbrev pub commands_done : Running → ℕ
-commands_done running.Quiet = 0
-commands_done (running.Ran commands pending) = commands
+abbrev pub commands_done : UnitAnswer → ℕ
+commands_done (answer.Ran (running.Ran commands pending)) = commands
+commands_done _ = 0
 
--- WHAT SERVING DOES: takes, starts, runs, interruptions and deliveries of a unit, one after another, and how many posts and commands
--- they come to
+-- a step that serving makes
+abbrev pub is_of_serving : UnitStep → Bool
+is_of_serving (step.Control c) = false
+is_of_serving _ = true
+
+-- the answer of a step of serving that changed nothing
+abbrev pub changed_nothing : UnitAnswer → Bool
+changed_nothing (answer.Started starting.Busy) = true
+changed_nothing (answer.Started starting.Idle) = true
+changed_nothing (answer.Ran running.Quiet) = true
+changed_nothing (answer.Interrupted interruption.Quiet) = true
+changed_nothing _ = false
+
+-- WHAT SERVING DOES: takes, starts, runs, interruptions and deliveries of a unit, one after another, with the sums of the posts that
+-- they sent back and of the commands that they did
 pub data Serves (old : SiteState AnyDevice) (unit : ℕ) : ℕ → ℕ → SiteState AnyDevice → Type 0 where
   Begins : Serves old unit 0 0 old
   Takes : {posts commands : ℕ} {mid new : SiteState AnyDevice} → Serves old unit posts commands mid →
       (answer : Intake) → OnUnit mid unit (λ p q. PartTakes any_device p answer q) new → Serves old unit posts commands new
-  Starts : {posts commands : ℕ} {mid new : SiteState AnyDevice} → Serves old unit posts commands mid →
-      (answer : Starting) → OnBook mid unit (λ b c. StartsBook any_device b answer c) new → Serves old unit posts commands new
-  Runs : {posts commands : ℕ} {mid new : SiteState AnyDevice} → Serves old unit posts commands mid → (max : ℕ) → 1 ≤ max →
-      (answer : Running) → OnBook mid unit (λ b c. RunsBook any_device b max answer c) new →
-      Serves old unit posts (commands + commands_done answer) new
-  Interrupts : {posts commands : ℕ} {mid new : SiteState AnyDevice} → Serves old unit posts commands mid →
-      (answer : Interruption) → OnBook mid unit (λ b c. InterruptsBook any_device b answer c) new → Serves old unit posts commands new
+  Steps : {posts commands : ℕ} {mid new : SiteState AnyDevice} → Serves old unit posts commands mid → (t : UnitStep) (a : UnitAnswer) →
+      is_of_serving t ≡ true → OnBook mid unit (λ b c. StepsBook any_device b t a c) new → Serves old unit posts (commands + commands_done a) new
   Delivers : {posts commands : ℕ} {mid new : SiteState AnyDevice} → Serves old unit posts commands mid →
       (answer : Delivery) → DeliversAs mid unit answer new → Serves old unit (posts + posts_sent answer) commands new
 
@@ -112,9 +121,9 @@ OnDelivery s unit (delivery.Delivered name) = Unit {0}
 OnDelivery s unit (delivery.Full name) = IsHeldUp s unit
 
 -- these events changed nothing
-pub record IsQuiet (taken : Intake) (started : Starting) (ran : Running) (interrupted : Interruption) (delivered : Delivery) : Type 0 where
+pub record IsQuiet (taken : Intake) (started ran interrupted : UnitAnswer) (delivered : Delivery) : Type 0 where
   pub takes_none : (name : Name) → taken ≢ intake.Took name
-  pub starts_none : (started ≡ starting.Busy) ⊎ (started ≡ starting.Idle)
-  pub runs_none : ran ≡ running.Quiet
-  pub interrupts_none : interrupted ≡ interruption.Quiet
+  pub starts_none : changed_nothing started ≡ true
+  pub runs_none : changed_nothing ran ≡ true
+  pub interrupts_none : changed_nothing interrupted ≡ true
   pub delivers_none : (name : Name) → delivered ≢ delivery.Delivered name

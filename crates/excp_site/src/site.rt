@@ -1,7 +1,6 @@
 //! A site: its units and tasks, and what its caller is making.
 
 mod channels;
-mod controls;
 mod events;
 mod images;
 mod long_use;

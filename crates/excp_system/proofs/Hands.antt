@@ -7,7 +7,7 @@ use Rattle.std.proofs.lemmas.List.{get_or-map, length-set, length-replicate, map
 use mathlib.Core.Logic.{dite}
 use native.Mathlib.Decide.{ℕ_discrete}
 use Rattle.signed_list.specs.Signed.{Blank, RegisterEnds, ListState, Signing, fresh_pen, no_name, signed_by}
-use Rattle.excp_system.specs.declared.control.Control.{Control}
+use Rattle.unit_book.specs.declared.control.Control.{Control}
 use Rattle.excp_system.specs.Controls.{ArePens, IsLog, LogState, PensState, asked_of, asks, pen_of}
 use Rattle.excp_system.specs.Opening.{AreBlank, AreHands, AreLogs, AreRegisters, RowsState, register_at, site_of}
 use Rattle.excp_system.specs.Sites.{SiteRows}

@@ -36,11 +36,12 @@ use Rattle.unit_book.specs.Settle.{AddsService, is_service}
 use Rattle.unit_book.proofs.WorldBooks.{Keeps, Sound, keeps-close, keeps-purge, keeps-reset}
 use Rattle.signed_list.specs.Signed.{items_of}
 use Rattle.excp_system.specs.Begun.{Continues}
-use Rattle.excp_system.specs.declared.control.Control.{Control}
-use Rattle.excp_system.specs.declared.control.Control.TheVariants as control
-use Rattle.excp_system.specs.declared.control.Controlling.{Controlling}
-use Rattle.excp_system.specs.declared.control.Controlling.TheVariants as controlling
-use Rattle.excp_system.specs.Controls.{Begins, Controlled, ControlRefused, ControlsBook, Goes, KeepsLog, LogState, Makes, MakesNone, Opens, is_asked, is_quiet, logged, makes_none}
+use Rattle.unit_book.specs.declared.control.Control.{Control}
+use Rattle.unit_book.specs.declared.control.Control.TheVariants as control
+use Rattle.unit_book.specs.declared.control.Controlling.{Controlling}
+use Rattle.unit_book.specs.declared.control.Controlling.TheVariants as controlling
+use Rattle.unit_book.specs.Steps.{ControlRefused, ControlsBook}
+use Rattle.excp_system.specs.Controls.{Begins, Controlled, Goes, KeepsLog, LogState, Makes, MakesNone, Opens, is_asked, is_quiet, logged, makes_none}
 use Rattle.excp_system.specs.Sites.{SiteRows}
 use Rattle.excp_system.proofs.Begins.{continues_adds, continues_closes, continues_purges}
 

@@ -18,7 +18,7 @@ use Rattle.fifo_row.specs.Ends.{Sending, Taking}
 use Rattle.fifo_row.specs.Lists.{of_sender}
 use Rattle.excp_system.specs.declared.item.Notice.{Notice}
 use Rattle.excp_system.specs.Sites.{SiteRows, intake_rows, post_rows, notice_rows, for_task, taker_of, end_of}
-use Rattle.excp_system.specs.declared.control.Control.{Control}
+use Rattle.unit_book.specs.declared.control.Control.{Control}
 use Rattle.excp_system.specs.Controls.{PensState}
 use Rattle.excp_system.specs.Fans.{FanState, sent_to}
 use Rattle.excp_system.specs.States.{TaskState, HandlerState, IsUnit, IsTask, IsHandler, AreOf}

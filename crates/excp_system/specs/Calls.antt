@@ -7,7 +7,7 @@ use Rattle.request_piece.specs.declared.piece.Piece.{Piece}
 use Rattle.fifo_row.specs.Steps.{WasEmpty, WasFull}
 use Rattle.excp_system.specs.Sites.{SiteRows, RequestFact, NoFact, intake_rows, post_rows, notice_rows, task_of, unit_of, notifier_of}
 use Rattle.excp_system.specs.Sites.{end_of, taker_of}
-use Rattle.excp_system.specs.declared.control.Control.{Control}
+use Rattle.unit_book.specs.declared.control.Control.{Control}
 use Rattle.excp_system.specs.Controls.{asks, is_asked}
 use Rattle.excp_system.specs.States.{HandlerState, TaskState, sent_by}
 

@@ -1,23 +1,17 @@
 -- THE CONTROLS OF A UNIT: the purges, closes and resets that were asked of it, by whom, and the entries that they made
 -- (DFSMSdfp Advanced Services, PURGE and CLOSE, and profile).
 use Rattle.std.specs.Prelude.{◌≡◌, ℕ, ◌+◌, Bool, true, false, not, Option, Some, None, Result, Ok, Err, List, [], ◌∷◌, ◌++◌, slice_get, slice_index_or, slice_set}
-use Rattle.device_port.specs.Meaning.{Meaning}
 use Rattle.request_piece.specs.declared.scope.Scope.TheVariants.{Dcb, Task}
 use Rattle.unit_book.specs.declared.answer.DcbError.{DcbError}
 use Rattle.unit_book.specs.declared.answer.DcbError.TheVariants.{NoSuchDcb, NoMemory}
 use Rattle.unit_book.specs.declared.entry.Entry.{Entry}
 use Rattle.unit_book.specs.declared.entry.Entry.TheVariants as entry
-use Rattle.unit_book.specs.Answers.{Adds}
 use Rattle.unit_book.specs.Book.{Book}
-use Rattle.unit_book.specs.Controls.{ClosesBook, DcbRefused, PurgesBook, ResetRefused}
 use Rattle.unit_book.specs.Dcbs.{is_open, is_opened}
-use Rattle.unit_book.specs.Refusals.{CloseLacks, PurgeLacks, ResetLacks}
 use Rattle.unit_book.specs.Trace.{is_opening}
 use Rattle.signed_list.specs.Signed.{ListState, RegisterName, Signing, items_of}
-use Rattle.excp_system.specs.declared.control.Control.{Control}
-use Rattle.excp_system.specs.declared.control.Control.TheVariants.{Purge, Close, Reset}
-use Rattle.excp_system.specs.declared.control.Controlling.{Controlling}
-use Rattle.excp_system.specs.declared.control.Controlling.TheVariants as controlling
+use Rattle.unit_book.specs.declared.control.Control.{Control}
+use Rattle.unit_book.specs.declared.control.Control.TheVariants.{Purge, Close, Reset}
 use Rattle.excp_system.specs.Sites.{SiteRows}
 
 -- the control that made an entry, if one did
@@ -87,11 +81,11 @@ pub record PensState : Type 0 where
   pub number : ℕ
   pub asked : List (List Control)
 
--- what was asked of a unit, of one list for each
+-- the controls that a unit was asked: the list with its number, and none after the last list
 abbrev pub asked_of : List (List Control) → ℕ → List Control
 asked_of asked unit = slice_index_or asked unit []
 
--- the lists with one control more of a unit, if memory did not run out
+-- the lists after a unit is asked one more control: `true` adds it, `false` says that memory ran out
 abbrev pub asks : Bool → ℕ → Control → List (List Control) → List (List Control)
 asks false unit c asked = asked
 asks true unit c asked = slice_set asked unit (asked_of asked unit ++ c ∷ [])
@@ -100,35 +94,12 @@ asks true unit c asked = slice_set asked unit (asked_of asked unit ++ c ∷ [])
 abbrev pub pen_of : SiteRows → ℕ → ℕ → List Control → Signing Control
 pen_of s number unit signed = record { register = s.register unit; number = number; signed = signed }
 
--- each pen is of the register of its place
+-- each pen is of the register of its index
 abbrev pub ArePens : SiteRows → ℕ → List (Signing Control) → Type 0
 ArePens s number pens = (unit : ℕ) (p : Signing Control) → slice_get pens unit ≡ Some p → p ≡ pen_of s number unit p.signed
-
--- WHAT A CONTROL DOES to a book, by its answer
-module _ {D : Type 0} (meaning : Meaning D) where
-  abbrev pub ControlsBook : Book D → Control → Controlling → Book D → Type 0
-  ControlsBook old (Purge (Dcb dcb) mode) (controlling.Purged p) new =
-      (is_opened dcb old.trace ≡ true) × PurgesBook meaning old (Dcb dcb) mode p new
-  ControlsBook old (Purge (Task task) mode) (controlling.Purged p) new = PurgesBook meaning old (Task task) mode p new
-  ControlsBook old (Close dcb) (controlling.Closed c) new = ClosesBook meaning old dcb c new
-  ControlsBook old (Reset dcb) controlling.Reset new = (is_open dcb old.trace ≡ true) × Adds old (entry.Reset dcb) new
-  ControlsBook old c answer new = ⊥
 
 -- a control was asked: its answer is not that memory ran out
 abbrev pub is_asked : {A : Type 0} → Result A DcbError → Bool
 is_asked (Ok a) = true
 is_asked (Err NoSuchDcb) = true
 is_asked (Err NoMemory) = false
-
--- when a control is refused: a purge of a task only if memory runs out, and each other as the call of the book
-abbrev pub ControlRefused : {D : Type 0} → Book D → Control → DcbError → Type 0
-ControlRefused b (Purge (Dcb dcb) mode) error = DcbRefused b dcb error
-ControlRefused b (Purge (Task task) mode) error = error ≡ NoMemory
-ControlRefused b (Close dcb) error = DcbRefused b dcb error
-ControlRefused b (Reset dcb) error = ResetRefused b dcb error
-
--- when a control wants memory
-abbrev pub ControlLacks : {D : Type 0} → Book D → Control → Type 0
-ControlLacks b (Purge scope mode) = PurgeLacks b
-ControlLacks b (Close dcb) = CloseLacks b dcb
-ControlLacks b (Reset dcb) = ResetLacks b

@@ -8,7 +8,7 @@ use Rattle.fifo_row.specs.Lists.{of_sender}
 use Rattle.excp_system.specs.Sites.{unit_of, for_task}
 use Rattle.excp_system.specs.States.{Locked, TaskState, sent_by}
 
--- `count` units, or tasks, each at the place of its number
+-- `count` units, or tasks, each at the index of its number
 pub record ArePlaced {A : Type 0} (number : A → ℕ) (count : ℕ) (all : List A) : Type 0 where
   pub count_is : length all ≡ count
   pub each : (k : ℕ) (x : A) → slice_get all k ≡ Some x → number x ≡ k

@@ -12,6 +12,6 @@ pub record FanState (I : Type 0) : Type 0 where
 abbrev pub sent_to : {I : Type 0} → FanState I → ℕ → List I
 sent_to f k = slice_index_or f.sent k []
 
--- the ends are those of the sender with this number, each of the row of its place
+-- the ends are those of the sender with this number, each of the row of its index
 abbrev pub IsFan : {I : Type 0} → ReachedRows → ℕ → List (Sending I) → Type 0
 IsFan {I} r number ends = (k : ℕ) (s : Sending I) → slice_get ends k ≡ Some s → s ≡ end_of r number k s.sent

@@ -35,7 +35,7 @@ module _ {D : Type 0} (s : SiteRows) where
 abbrev pub OwesIf : {D : Type 0} → Bool → Locked D → Locked D → Type 0
 OwesIf stopped old new = new ≡ record old { book = new.book; owes = old.owes || stopped }
 
--- the answer of `run` tells of a status that is pending now
+-- the answer of `run` says that a status is pending now
 abbrev pub leaves_pending : Running → Bool
 leaves_pending Quiet = false
 leaves_pending (Ran commands pending) = pending

@@ -10,7 +10,7 @@ use Rattle.excp_system.specs.Controls.{LogState, PensState}
 use Rattle.excp_system.specs.Fans.{FanState}
 use Rattle.excp_system.specs.States.{TaskState, HandlerState}
 
--- the rows of a system: how many tasks and units there are, and its rows, each at the place of its tag
+-- the rows of a system: how many tasks and units there are, and its rows, each at the index of its tag
 pub record RowsState : Type 0 where
   pub tasks : ℕ
   pub units : ℕ
@@ -21,13 +21,15 @@ pub record RowsState : Type 0 where
   pub notice : List Fresh
   pub registers : List Blank
 
+-- the row of an index after the last
 abbrev pub no_row : Fresh
 no_row = unseated no_name 0 0 0
 
--- the row at a place
+-- the row at an index
 abbrev pub row_at : List Fresh → ℕ → Fresh
 row_at rows k = slice_index_or rows k no_row
 
+-- the register of a unit
 abbrev pub register_at : List Blank → ℕ → Blank
 register_at registers unit = slice_index_or registers unit (record { register = no_register; pens = 0; seated = true })
 
@@ -44,7 +46,7 @@ site_of v = record {
   register = λ unit. (register_at v.registers unit).register;
 }
 
--- `count` rows that gave no seats yet, each with its place for its tag
+-- `count` rows that gave no seats yet, each with its index for its tag
 pub record ArePlain (capacity count senders : ℕ) (rows : List Fresh) : Type 0 where
   pub count_is : length rows ≡ count
   pub each : (k : ℕ) (f : Fresh) → slice_get rows k ≡ Some f → f ≡ unseated f.row capacity k senders
@@ -61,7 +63,7 @@ pub record AreFresh (v : RowsState) : Type 0 where
   pub notices : ArePlain v.units 8 v.units v.notice
   pub registers : AreBlank v.units v.tasks v.registers
 
--- each row is the one that is reached at its place, and gave no seats yet
+-- each row is the one that is reached at its index, and gave no seats yet
 abbrev pub AreRows : ReachedRows → ℕ → List Fresh → Type 0
 AreRows r senders rows = (k : ℕ) (f : Fresh) → slice_get rows k ≡ Some f → f ≡ unseated (r.row k) r.capacity k senders
 
@@ -99,12 +101,12 @@ pub record AreBooks {D : Type 0} (units : ℕ) (books : List (Book D)) : Type 0 
 abbrev pub fresh_task : ℕ → ℕ → TaskState
 fresh_task units number = record { number = number; sent = replicate units []; got = []; asked = replicate units [] }
 
--- tasks that have sent, asked and collected nothing, each at the place of its number
+-- tasks that have sent, asked and collected nothing, each at the index of its number
 pub record AreTasks (count units : ℕ) (tasks : List TaskState) : Type 0 where
   pub count_is : length tasks ≡ count
   pub each : (t : ℕ) (w : TaskState) → slice_get tasks t ≡ Some w → w ≡ fresh_task units t
 
--- the handlers of the eight subclasses, each at the place of its subclass, which took nothing
+-- the handlers of the eight subclasses, each at the index of its subclass, which took nothing
 pub record AreHandlers (handlers : List HandlerState) : Type 0 where
   pub count_is : length handlers ≡ 8
   pub each : (isc : ℕ) (h : HandlerState) → slice_get handlers isc ≡ Some h → h ≡ record { isc = isc; taken = [] }

@@ -1,4 +1,4 @@
--- WHICH UNITS OF A WORKER REST (profile). A unit at rest sits out some passes of the worker over its units.
+-- WHICH UNITS A WORKER SKIPS (profile). An idle unit is skipped in some passes of the worker over its units.
 use Rattle.std.specs.Prelude.{◌≡◌, ◌≤◌, ℕ, List, slice_index_or}
 
 -- how many passes a unit sits out from now on

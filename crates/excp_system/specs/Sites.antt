@@ -37,9 +37,11 @@ no_rows = record {
   register = λ unit. no_register;
 }
 
+-- the intake rows, one for each unit
 abbrev pub intake_rows : SiteRows → ReachedRows
 intake_rows s = record { capacity = s.intake_capacity; row = s.intake }
 
+-- the post rows, one for each task
 abbrev pub post_rows : SiteRows → ReachedRows
 post_rows s = record { capacity = s.post_capacity; row = s.post }
 
@@ -47,7 +49,7 @@ post_rows s = record { capacity = s.post_capacity; row = s.post }
 abbrev pub notice_rows : SiteRows → ReachedRows
 notice_rows s = record { capacity = s.units; row = s.notice }
 
--- what a row keeps of a request: its number is its place among those of its task, and its unit is the row's
+-- what a row keeps of a request: its number is its position among those of its task, and its unit is the row's
 abbrev pub RequestFact : Piece → ℕ → ℕ → ℕ → Type 0
 RequestFact r task place tag = (r.name.seq ≡ place) × (r.unit ≡ tag)
 
@@ -55,13 +57,15 @@ RequestFact r task place tag = (r.name.seq ≡ place) × (r.unit ≡ tag)
 abbrev pub NoFact : {I : Type 0} → I → ℕ → ℕ → ℕ → Type 0
 NoFact item sender place tag = ⊤
 
--- the sender of a request is its task; of a posted value and of a notice it is the unit
+-- the sender of a request is its task
 abbrev pub task_of : Piece → ℕ
 task_of r = r.name.task
 
+-- the unit that posted a value
 abbrev pub unit_of : PostedState → ℕ
 unit_of p = p.unit
 
+-- the unit that sent a notice
 abbrev pub notifier_of : Notice → ℕ
 notifier_of n = n.unit
 

@@ -6,21 +6,21 @@ ghost use Rattle.excp_system.specs.Fans.{IsFan, sent_to};
 ghost use Rattle.excp_system.specs.Sites.{end_of};
 
 use crate::site::Reach;
-use fifo_row::{Full, Item, Sender};
+use fifo_row::{Full, RowItem, Sender};
 use std::alloc::AllocError;
 use std::marker::{Model, PhantomData};
 use std::sync::Wait;
 
-/// One sender's ends of several rows, each at the place of its row's tag. Contracts see the sender's number and what
+/// One sender's ends of several rows, each at the index of its row's tag. Contracts see the sender's number and what
 /// it sent into each.
 #[derive(Drop)]
-pub struct Fan<'r, I: Item, F: Reach> {
+pub struct Fan<'r, I: RowItem, F: Reach> {
     number: u16,
     ends: Vec<Sender<'r, I>>,
     of: PhantomData<F>,
 }
 
-impl<'r, I: Item, F: Reach> Model for Fan<'r, I, F> {
+impl<'r, I: RowItem, F: Reach> Model for Fan<'r, I, F> {
     ghost use Rattle.std.specs.Prelude.{map};
     ghost use Rattle.excp_system.specs.Fans.{FanState, IsFan};
 
@@ -31,7 +31,7 @@ impl<'r, I: Item, F: Reach> Model for Fan<'r, I, F> {
     ghost invariant = { λ f. IsFan F.reached f.number f.ends.items };
 }
 
-impl<'r, I: Item, F: Reach> Fan<'r, I, F> {
+impl<'r, I: RowItem, F: Reach> Fan<'r, I, F> {
     /// The sender with this number, with these ends.
     pub(crate) fn new(number: u16, ends: Vec<Sender<'r, I>>) -> Fan<'r, I, F>
         requires { IsFan F.reached number ends.items }

@@ -1,4 +1,4 @@
-//! What workers pass before each call, what they tell of, and how they are stopped.
+//! Hooks around the calls of workers, and the signal that stops them.
 
 use request_piece::Name;
 use std::sync::atomic::{AtomicBool, Ordering};
@@ -13,9 +13,9 @@ pub enum Point {
     Deliver,
 }
 
-/// A gate that a worker passes, under the unit's lock, before each call. A gate may watch the worker, or hold it up.
-/// It also hears of each call without memory, of the posted values that were sent back, and of full post rows; by
-/// default it then does nothing.
+/// Hooks around the calls of a worker, which holds the unit's lock meanwhile. `pass` runs before each call, and may watch or delay
+/// the worker, as tests do. The other hooks report calls that run out of memory, posts that were sent back, and full post rows.
+/// By default they do nothing.
 pub trait Gate {
     /// The worker is about to make this call.
     fn pass(&self, unit: u16, point: Point);
@@ -30,7 +30,7 @@ pub trait Gate {
     fn row_is_full(&self, _request: Name) {}
 }
 
-/// A gate that holds nobody up.
+/// A gate that delays no worker.
 pub struct OpenGate;
 
 impl Gate for OpenGate {

@@ -2,7 +2,7 @@
 
 ghost use Rattle.std.specs.Prelude.{◌≡◌};
 
-use fifo_row::Item;
+use fifo_row::RowItem;
 use request_piece::{Posted, Request};
 use std::marker::Model;
 
@@ -70,7 +70,7 @@ impl Returned {
     }
 }
 
-impl Item for Sent {
+impl RowItem for Sent {
     ghost use Rattle.excp_system.specs.Sites.{RequestFact, task_of};
 
     ghost from = { task_of };
@@ -82,7 +82,7 @@ impl Item for Sent {
     }
 }
 
-impl Item for Returned {
+impl RowItem for Returned {
     ghost use Rattle.excp_system.specs.Sites.{NoFact, unit_of};
 
     ghost from = { unit_of };
@@ -94,7 +94,7 @@ impl Item for Returned {
     }
 }
 
-impl Item for Notice {
+impl RowItem for Notice {
     ghost use Rattle.excp_system.specs.Sites.{NoFact, notifier_of};
 
     ghost from = { notifier_of };

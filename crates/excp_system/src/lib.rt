@@ -8,7 +8,6 @@
 #![tactic(auto)]
 
 mod balance;
-mod control;
 mod fan;
 mod gate;
 mod isc;
@@ -26,7 +25,6 @@ mod unit;
 mod workers;
 
 pub use balance::drained;
-pub use control::{Control, Controlling};
 pub use fan::Fan;
 pub use gate::{Gate, OpenGate, Point, Stop};
 pub use isc::IscTaker;

@@ -4,10 +4,10 @@ ghost use Rattle.std.specs.Prelude.{◌≡◌, ◌<◌, ◌++◌, ◌∷◌, ℕ
 ghost use Rattle.signed_list.specs.Signed.{signed_by};
 ghost use Rattle.excp_system.specs.Controls.{IsLog, logged};
 
-use crate::control::Control;
 use crate::site::Site;
 use signed_list::{Pen, SignedList};
 use std::marker::{Model, PhantomData};
+use unit_book::Control;
 
 /// The log of a unit, with the unit's own pen. Contracts see its register, and what was asked.
 #[derive(Drop)]

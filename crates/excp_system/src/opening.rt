@@ -7,17 +7,17 @@ ghost use Rattle.excp_system.specs.Controls.{pen_of};
 ghost use Rattle.excp_system.specs.Opening.{AreFans, AreHands, AreLogs, AreRegisters, AreRows, AreTakers};
 ghost use Rattle.excp_system.specs.Sites.{end_of};
 
-use crate::control::Control;
 use crate::fan::Fan;
 use crate::log::Log;
 use crate::pens::Pens;
 use crate::site::{Reach, Site};
-use fifo_row::{Item, Row, Sender, Taker};
+use fifo_row::{Row, RowItem, Sender, Taker};
 use signed_list::{Pen, Register};
 use std::alloc::{AllocError, Global};
+use unit_book::Control;
 
 /// This many fans of senders, which reach no row yet.
-pub(crate) fn new_fans<'r, I: Item, F: Reach>(
+pub(crate) fn new_fans<'r, I: RowItem, F: Reach>(
     alloc: Global,
     count: u16,
 ) -> Result<Vec<Fan<'r, I, F>>, AllocError>
@@ -32,7 +32,7 @@ pub(crate) fn new_fans<'r, I: Item, F: Reach>(
 
 /// Gives the fans the ends of all rows, and answers the rows' takers in order. If memory runs out, some fans have their
 /// ends and some do not.
-pub(crate) fn seat_rows<'r, I: Item, F: Reach>(
+pub(crate) fn seat_rows<'r, I: RowItem, F: Reach>(
     alloc: Global,
     rows: &'r mut Vec<Row<I>>,
     senders: u16,
@@ -54,8 +54,8 @@ pub(crate) fn seat_rows<'r, I: Item, F: Reach>(
     Ok(takers)
 }
 
-/// Gives each fan its end of the row at this place.
-fn deal<'r, I: Item, F: Reach>(
+/// Gives each fan its end of the row at this index.
+fn deal<'r, I: RowItem, F: Reach>(
     ends: Vec<Sender<'r, I>>,
     place: usize,
     fans: &mut Vec<Fan<'r, I, F>>,
@@ -115,7 +115,7 @@ pub(crate) fn seat_registers<'r, S: Site>(
     Ok(logs)
 }
 
-/// Gives each task its pen of the register at this place.
+/// Gives each task its pen of the register at this index.
 fn hand_out<'r, S: Site>(
     pens: Vec<Pen<'r, Control>>,
     place: usize,

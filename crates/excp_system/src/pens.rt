@@ -4,14 +4,14 @@ ghost use Rattle.std.specs.Prelude.{◌≡◌, ◌<◌, ◌++◌, ◌∷◌, [],
 ghost use Rattle.signed_list.specs.Signed.{signed_by};
 ghost use Rattle.excp_system.specs.Controls.{ArePens, asked_of, asks, logged, pen_of};
 
-use crate::control::Control;
 use crate::log::Log;
 use crate::site::Site;
 use signed_list::Pen;
 use std::alloc::AllocError;
 use std::marker::{Model, PhantomData};
+use unit_book::Control;
 
-/// A task's pens, each at the place of its unit. Contracts see the task's number, and what it asked of each unit.
+/// A task's pens, each at the index of its unit. Contracts see the task's number, and what it asked of each unit.
 #[derive(Drop)]
 pub struct Pens<'r, S: Site> {
     number: u16,

@@ -7,7 +7,7 @@ use std::marker::Model;
 
 /// What a turn on a unit found.
 #[derive(Clone, Copy, PartialEq, Eq)]
-pub(crate) enum Turn {
+pub(crate) enum TurnResult {
     /// There was something to do.
     Served,
     /// A status is pending, or a post row is full: others go on first.
@@ -94,19 +94,19 @@ impl Rota {
     }
 
     /// Notes what a turn on a unit found. Only an idle unit may rest after it.
-    pub(crate) fn note(&mut self, unit: u16, turn: Turn)
-        ensures busy { turn ≢ Turn.Idle → self.new ≡ self.old }
+    pub(crate) fn note(&mut self, unit: u16, turn: TurnResult)
+        ensures busy { turn ≢ TurnResult.Idle → self.new ≡ self.old }
         ensures others { (other : ℕ) → other ≢ unit → rest_of self.new other ≡ rest_of self.old other }
         ensures short { AreShort self.new }
     {
         let place = usize::from(unit);
-        if turn != Turn::Idle {
+        if turn != TurnResult::Idle {
             self.busy = self.busy.saturating_add(1);
         }
         if place >= MOST_UNITS {
             return;
         }
-        if turn != Turn::Idle {
+        if turn != TurnResult::Idle {
             self.idle_turns[place] = 0;
         } else if self.idle_turns[place] < PATIENCE {
             self.idle_turns[place] += 1;

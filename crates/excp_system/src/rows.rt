@@ -4,17 +4,17 @@ ghost use Rattle.std.specs.Prelude.{◌≡◌, ◌<◌, ◌≤◌, ◌^◌, IfOk
 ghost use Rattle.excp_system.specs.Opening.{AreBlank, AreFans, AreFresh, AreHands, AreLogs, ArePlain, AreTakers, site_of};
 ghost use Rattle.excp_system.specs.Sites.{intake_rows, notice_rows, post_rows};
 
-use crate::control::Control;
 use crate::fan::Fan;
 use crate::item::{Notice, Returned, Sent};
 use crate::log::Log;
 use crate::opening::{new_fans, new_hands, seat_registers, seat_rows};
 use crate::pens::Pens;
 use crate::site::{IntakeRows, NoticeRows, PostRows, Site};
-use fifo_row::{Item, Row, Taker};
+use fifo_row::{Row, RowItem, Taker};
 use signed_list::Register;
 use std::alloc::{AllocError, Global};
 use std::marker::Model;
+use unit_book::Control;
 
 /// How many interruption subclasses there are (SA22-7832, "Interruption Subclass").
 pub(crate) const SUBCLASSES: u16 = 8;
@@ -52,7 +52,7 @@ impl Model for Rows {
 }
 
 impl Rows {
-    /// The rows for these numbers of tasks and units (1 to 64 each). `intake` is the room of each intake row and
+    /// The rows for these numbers of tasks and units (1 to 64 each). `intake` is the capacity of each intake row and
     /// `post` that of each post row (1 to 65,536 each). A notice row has room for a notice of each unit.
     pub fn new(
         alloc: Global,
@@ -142,8 +142,8 @@ pub(crate) struct Ends<'r, S: Site> {
     ghost logs_are: { AreLogs S.rows S.rows.units logs.items },
 }
 
-/// `count` rows, each with its place for its tag.
-fn new_rows<I: Item + Drop>(
+/// `count` rows, each with its index for its tag.
+fn new_rows<I: RowItem + Drop>(
     alloc: Global,
     count: u16,
     senders: u16,

@@ -3,13 +3,12 @@
 ghost use Rattle.std.specs.Prelude.{◌≡◌, ◌<◌, ◌≤◌, ◌-◌, ◌^◌, length, IfErr, IfNone, IfOk, IfSome, OnErr, OnOk};
 ghost use Rattle.std.specs.List.{All};
 ghost use Rattle.fifo_row.specs.Lists.{of_sender};
-ghost use Rattle.excp_system.specs.Controls.{ControlLacks, ControlRefused, ControlsBook};
+ghost use Rattle.unit_book.specs.Steps.{ControlLacks, ControlRefused, ControlsBook};
 ghost use Rattle.excp_system.specs.Notices.{Notifies, became_pending};
 ghost use Rattle.excp_system.specs.Calls.{Asks, TaskCollects, IntakeWasFull, Issues, PostRowWasEmpty, next_name};
 ghost use Rattle.excp_system.specs.Sites.{unit_of};
 ghost use Rattle.excp_system.specs.States.{IsTask, sent_by};
 
-use crate::control::{Control, Controlling};
 use crate::fan::Fan;
 use crate::item::{Returned, Sent};
 use crate::pens::Pens;
@@ -20,7 +19,7 @@ use fifo_row::{Full, Taker};
 use request_piece::{Name, Posted, Request};
 use std::marker::Model;
 use std::sync::Wait;
-use unit_book::DcbError;
+use unit_book::{Control, Controlling, DcbError};
 
 /// A task. Contracts see its number, what it sent to each unit, what it collected, and the controls that it asked of each
 /// unit.

@@ -1,4 +1,4 @@
-//! What lies under a unit's lock.
+//! What a unit's lock protects.
 
 mod book_calls;
 
@@ -96,9 +96,9 @@ impl<'r, S: Opened<D>, D: Device> UnitState<'r, S, D> {
         &self.book
     }
 
-    /// What holds whenever the unit's lock is got: what a book keeps; and each of its requests is of one of the tasks
-    /// and for this unit. The book continues the one that was handed in for the unit, on the same device as it was
-    /// mounted. Of its ends `intake`, `back` and `notice` tell. It takes no memory.
+    /// What holds whenever a caller has the unit's lock. The book keeps its invariant. Each request is of one of the tasks and for
+    /// this unit. The book continues the one that the unit was made with, on the device as it was mounted. For the ends of the
+    /// unit's rows see `intake`, `back` and `notice`. Never allocates.
     pub fn holds(&self)
         ensures legal { Legal D.meaning self.now.book.mounted self.now.book.trace }
         ensures settled { Settled D.meaning self.now.book.mounted self.now.book.trace }

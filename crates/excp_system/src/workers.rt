@@ -5,7 +5,7 @@ ghost use Rattle.std.specs.List.{All};
 
 use crate::gate::{Gate, Point, Stop};
 use crate::isc::IscTaker;
-use crate::rota::{Rota, Turn};
+use crate::rota::{Rota, TurnResult};
 use crate::site::Opened;
 use crate::system::System;
 use crate::unit::UnitState;
@@ -118,7 +118,7 @@ fn pass_over<'r, S: Opened<D>, D: Device, G: Gate, R: Wait>(
         if rota.is_due(*unit) {
             let turn = turn_of(rt, system, *unit, gate, commands);
             rota.note(*unit, turn);
-            served |= turn == Turn::Served;
+            served |= turn == TurnResult::Served;
             served |= serve_notices(rt, system, takers, gate);
             looked = true;
         }
@@ -136,7 +136,7 @@ fn turn_of<S: Opened<D>, D: Device, G: Gate, R: Wait>(
     unit: u16,
     gate: &G,
     commands: u32,
-) -> Turn
+) -> TurnResult
     requires unit { unit < S.rows.units }
     requires commands { 1 ≤ commands }
 {
@@ -151,7 +151,7 @@ fn serve_unit<S: Opened<D>, D: Device, G: Gate, R: Wait>(
     unit: u16,
     gate: &G,
     commands: u32,
-) -> Turn
+) -> TurnResult
     requires { 1 ≤ commands }
 {
     gate.pass(unit, Point::Take);
@@ -164,10 +164,10 @@ fn serve_unit<S: Opened<D>, D: Device, G: Gate, R: Wait>(
     let run = told(gate, unit, Point::Run, state.run(rt, commands));
     let ran = matches!(run, Some(Running::Ran { .. }));
     let back = send_back(rt, state, unit, gate);
-    if took || started || ran || back == Turn::Served {
-        Turn::Served
+    if took || started || ran || back == TurnResult::Served {
+        TurnResult::Served
     } else if state.book().pending() {
-        Turn::Waiting
+        TurnResult::Waiting
     } else {
         back
     }
@@ -179,18 +179,18 @@ fn send_back<S: Opened<D>, D: Device, G: Gate, R: Wait>(
     state: &mut UnitState<'_, S, D>,
     unit: u16,
     gate: &G,
-) -> Turn {
+) -> TurnResult {
     gate.pass(unit, Point::Deliver);
     match state.deliver(rt) {
         Delivery::Delivered(name) => {
             gate.delivered(name);
-            Turn::Served
+            TurnResult::Served
         }
         Delivery::Full(name) => {
             gate.row_is_full(name);
-            Turn::Waiting
+            TurnResult::Waiting
         }
-        Delivery::Quiet => Turn::Idle,
+        Delivery::Quiet => TurnResult::Idle,
     }
 }
 
@@ -241,7 +241,7 @@ fn handle<S: Opened<D>, D: Device, G: Gate, R: Wait>(
         Some(Interruption::Again(_) | Interruption::Ended(_, _))
     );
     let back = send_back(rt, state, unit, gate);
-    answered || back == Turn::Served
+    answered || back == TurnResult::Served
 }
 
 /// Passes on the answer of a call. The gate hears of a call without memory.

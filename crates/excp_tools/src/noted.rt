@@ -1,7 +1,7 @@
 //! What reports need of a task beside its posts.
 
 use job_run::Notes;
-use job_script::{Action, Command, Script};
+use job_script::{Action, Script, ScriptCommand};
 use request_piece::Posted;
 use run_record::{TaskEvent, TaskNotes};
 use std::alloc::{AllocError, Global};
@@ -56,7 +56,7 @@ impl Notes for Noted {
 }
 
 /// How many events a command makes at most.
-fn most_events(command: &Command, units: usize) -> usize {
+fn most_events(command: &ScriptCommand, units: usize) -> usize {
     match &command.action {
         // it is issued, and its post is collected
         Action::Excp(_) => 2,

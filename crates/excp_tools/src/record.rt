@@ -1,7 +1,7 @@
 //! The record of a run, printed.
 
 use crate::screen::Screen;
-use record_lines::{Part, write_run};
+use record_lines::{RecordDetail, write_run};
 use run_record::Run;
 use std::cell::Cell;
 use std::io::{BufWriter, Write};
@@ -11,7 +11,7 @@ use unit_history::HistoryError;
 pub fn print_record(
     rt: &HostRuntime,
     run: &Run<'_>,
-    part: Part,
+    part: RecordDetail,
     is_broken: &Cell<bool>,
 ) -> Result<(), HistoryError> {
     let screen = Screen::new(rt.stdout(), is_broken);

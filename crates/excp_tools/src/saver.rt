@@ -5,7 +5,7 @@ use crate::progress::Progress;
 use crate::words::{OpenedFile, UnitFile, Words};
 use crate::{REJECTED, ended_by};
 use any_device::AnyDevice;
-use ckd_image::Kept;
+use ckd_image::DiskImageDetails;
 use job_script::{JobError, UnitSetup};
 use medium_image::{SaveError, save};
 use std::alloc::Global;
@@ -123,14 +123,18 @@ pub fn fits(alloc: Global, words: &Words, units: &[UnitSetup]) -> bool {
 
 /// Whether a disk by the lines of its unit can be saved, since there is such a model. Every other medium can.
 fn is_model(alloc: Global, unit: &UnitSetup) -> bool {
-    let job_script::Medium::Disk(geometry, _) = &unit.medium else {
+    let job_script::InitialMedium::Disk(geometry, _) = &unit.medium else {
         return true;
     };
     match (
         u16::try_from(geometry.heads),
         u32::try_from(geometry.track_bytes),
     ) {
-        (Ok(heads), Ok(track_bytes)) => Kept::of_model(alloc, heads, track_bytes).is_ok(),
+        (Ok(heads), Ok(track_bytes)) => DiskImageDetails::of_model(
+            alloc,
+            heads,
+            track_bytes,
+        ).is_ok(),
         _ => true,
     }
 }

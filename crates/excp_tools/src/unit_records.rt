@@ -1,8 +1,8 @@
 //! The units of a script, as their records show them.
 
 use any_device::AnyDevice;
-use job_script::{Medium, SetUp, UnitSetup};
-use run_record::{Room, UnitRecord};
+use job_script::{InitialMedium, SetUp, UnitSetup};
+use run_record::{MediumCapacity, UnitRecord};
 use std::alloc::{AllocError, Global};
 use unit_book::UnitBook;
 
@@ -31,11 +31,11 @@ fn unit_record<'a>(unit: &'a UnitSetup, book: &'a UnitBook<AnyDevice>) -> UnitRe
 }
 
 /// The room of a medium, if its device does not tell it.
-fn room_of(medium: &Medium) -> Option<Room> {
+fn room_of(medium: &InitialMedium) -> Option<MediumCapacity> {
     match medium {
-        Medium::Disk(_, _) => None,
-        Medium::Tape(bytes, _) => Some(Room::Tape { bytes: *bytes }),
-        Medium::Printer { lines, pages } => Some(Room::Printer {
+        InitialMedium::Disk(_, _) => None,
+        InitialMedium::Tape(bytes, _) => Some(MediumCapacity::Tape { bytes: *bytes }),
+        InitialMedium::Printer { lines, pages } => Some(MediumCapacity::Printer {
             lines: *lines,
             pages: *pages,
         }),

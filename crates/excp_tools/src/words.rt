@@ -6,7 +6,7 @@ ghost use Rattle.std.specs.Prelude.{◌≤◌};
 
 use job_run::Workers;
 use job_script::JobError;
-use record_lines::Part;
+use record_lines::RecordDetail;
 use std::alloc::{AllocError, Global};
 use std::env;
 use std::io::ErrorKind;
@@ -94,11 +94,11 @@ impl Words {
     }
 
     /// The part of the record of a run that is printed.
-    pub fn part(&self) -> Part {
+    pub fn part(&self) -> RecordDetail {
         match self.form {
-            Some(Form::Posts) => Part::Posts,
-            Some(Form::Steps) => Part::Steps(self.most),
-            Some(Form::Events) | None => Part::Events,
+            Some(Form::Posts) => RecordDetail::Posts,
+            Some(Form::Steps) => RecordDetail::Steps(self.most),
+            Some(Form::Events) | None => RecordDetail::Events,
         }
     }
 

@@ -3,7 +3,7 @@ use Rattle.std.proofs.Common.{◌≡◌, ◌≢◌, ℕ, zero, suc, true, false,
 use Rattle.std.proofs.Common.{Option}
 use mathlib.Core.Option.{some, some-injective, some-ne-none}
 use lib.ListN.{get_elem?}
-use Rattle.fifo_row.specs.declared.view.View.{View}
+use Rattle.fifo_row.specs.declared.view.RowView.{RowView}
 use Rattle.fifo_row.specs.Views.{opening_view, sender_view, taker_view, spent_view}
 use Rattle.fifo_row.specs.Rule.{FitsSender, FitsTaker, PassFits, Kept}
 use Rattle.fifo_row.specs.Steps.{IsState}
@@ -38,12 +38,12 @@ module _ {I : Type 0} (from : I → ℕ) where
   spent_fits tag reader seat all taken pass = record { as_sender = λ p. off p; as_taker = λ p. off p }
 
   -- another pass that sends has another number
-  pub apart : (tag : ℕ) (seat : ℕ → Option ℕ) (all : List I) (pass number j : ℕ) (u : View I) → seat number ≡ Some pass →
+  pub apart : (tag : ℕ) (seat : ℕ → Option ℕ) (all : List I) (pass number j : ℕ) (u : RowView I) → seat number ≡ Some pass →
       FitsSender from tag seat all j u → j ≢ pass → u.number ≢ number
   apart tag seat all pass number j u here fits ne same = ne (some_is j pass (sym fits.here ∙ (ap seat same ∙ here)))
 
 module _ {I : Type 0} (from : I → ℕ) (fact : I → ℕ → ℕ → ℕ → Type 0) where
-  one_view : (v u : View I) (j : ℕ) → get_elem? (v ∷ []) j ≡ some u → (j ≡ 0) × (v ≡ u)
+  one_view : (v u : RowView I) (j : ℕ) → get_elem? (v ∷ []) j ≡ some u → (j ≡ 0) × (v ≡ u)
   one_view v u zero e = (refl, some-injective v u e)
   one_view v u (suc j) e = absurd (some-ne-none u (sym e))
 
@@ -59,12 +59,12 @@ module _ {I : Type 0} (from : I → ℕ) (fact : I → ℕ → ℕ → ℕ → T
       few = λ k. omega arith;
       fits = λ j u e.
           let at = one_view opening_view u j e in
-          subst (λ (y : ℕ × View I). PassFits from 0 0 (λ k. None) [] [] y.0 y.1) (λ i. (sym at.0 i, at.1 i))
+          subst (λ (y : ℕ × RowView I). PassFits from 0 0 (λ k. None) [] [] y.0 y.1) (λ i. (sym at.0 i, at.1 i))
           (as_taker from 0 0 (λ k. None) [] [] 0 0 0 [] []
           (record { here = refl; tag_is = λ _. refl; taken_is = refl; later = λ k _. (refl, refl); ended = λ k xs m. no_met k xs m }));
     };
   }
 
   -- a pass learns that there is such a state
-  pub is_state : (pass : ℕ) (v : View I) → Learns (Kept from fact) pass v (IsState from fact v)
+  pub is_state : (pass : ℕ) (v : RowView I) → Learns (Kept from fact) pass v (IsState from fact v)
   is_state pass v items views h at = (views, pass, h, at)

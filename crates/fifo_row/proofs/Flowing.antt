@@ -1,18 +1,18 @@
 -- What the rule of a row says between any two steps.
 use Rattle.std.proofs.Common.{◌≡◌, ℕ, List, ◌++◌, ap, sym, ◌∙◌, subst}
-use Rattle.fifo_row.specs.declared.view.View.{View}
+use Rattle.fifo_row.specs.declared.view.RowView.{RowView}
 use Rattle.fifo_row.specs.Lists.{of_sender, HaveFacts}
 use Rattle.fifo_row.specs.Rule.{FitsTaker}
 use Rattle.fifo_row.specs.Flows.{IsTaker, SeatedFlows, MetFlows, OfSenders, KeepsFacts}
 
 module _ {I : Type 0} (from : I → ℕ) (fact : I → ℕ → ℕ → ℕ → Type 0) where
   -- the taker's seat
-  seat_of : (items : List I) (views : List (View I)) (v : View I) → (t : IsTaker from fact items views v) →
+  seat_of : (items : List I) (views : List (RowView I)) (v : RowView I) → (t : IsTaker from fact items views v) →
       FitsTaker from t.kept.tag t.kept.reader t.kept.seat (t.kept.taken ++ items) t.kept.taken t.pass v
   seat_of items views v t = (t.kept.fair.fits t.pass v t.at).as_taker t.takes
 
   -- what was taken of sender k and is held, as the taker knows it
-  of_all : (items : List I) (views : List (View I)) (v : View I) (t : IsTaker from fact items views v) (k : ℕ) →
+  of_all : (items : List I) (views : List (RowView I)) (v : RowView I) (t : IsTaker from fact items views v) (k : ℕ) →
       of_sender from k (v.taken ++ items) ≡ of_sender from k (t.kept.taken ++ items)
   of_all items views v t k = ap (λ l. of_sender from k (l ++ items)) (seat_of items views v t).taken_is
 

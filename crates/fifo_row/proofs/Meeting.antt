@@ -6,7 +6,7 @@ use native.Mathlib.Decide.{dec_le, ℕ_discrete}
 use lib.ListN.{get_elem?}
 use Rattle.crossbeam_queue.specs.Fifo.{Merges}
 use Rattle.crossbeam_queue.proofs.Lists.{at_set}
-use Rattle.fifo_row.specs.declared.view.View.{View}
+use Rattle.fifo_row.specs.declared.view.RowView.{RowView}
 use Rattle.fifo_row.specs.Lists.{of_sender}
 use Rattle.fifo_row.specs.Views.{sender_view, taker_view, spent_view}
 use Rattle.fifo_row.specs.Rule.{FitsSender, FitsTaker, PassFits, Fair, Kept}
@@ -47,7 +47,7 @@ module _ {I : Type 0} (from : I → ℕ) (fact : I → ℕ → ℕ → ℕ → T
     }
 
     -- another pass is no taker, and a sender's that was not met
-    others : (j : ℕ) (u : View I) → j ≢ pass → PassFits from tag reader seat all taken j u → j ≢ other →
+    others : (j : ℕ) (u : RowView I) → j ≢ pass → PassFits from tag reader seat all taken j u → j ≢ other →
         PassFits from tag reader seats all taken j u
     others j u ne old away = record {
       as_sender = λ p.
@@ -61,12 +61,12 @@ module _ {I : Type 0} (from : I → ℕ) (fact : I → ℕ → ℕ → ℕ → T
       as_taker = λ p. absurd (ne ((old.as_taker p).here ∙ sym mine.here));
     }
 
-    meets_fair : (views : List (View I)) → Fair from fact tag reader seat all taken views →
+    meets_fair : (views : List (RowView I)) → Fair from fact tag reader seat all taken views →
         Fair from fact tag reader seats all taken (set (set views pass (taker_view t made got ((number, sent) ∷ met))) other spent_view)
     meets_fair views f =
-        let both : View I = taker_view t made got ((number, sent) ∷ met) in
-        let unless_spent : ℕ → View I → Type 0 = λ j u. j ≢ other → PassFits from tag reader seats all taken j u in
-        let first : (j : ℕ) (u : View I) → get_elem? (set views pass both) j ≡ some u → unless_spent j u =
+        let both : RowView I = taker_view t made got ((number, sent) ∷ met) in
+        let unless_spent : ℕ → RowView I → Type 0 = λ j u. j ≢ other → PassFits from tag reader seats all taken j u in
+        let first : (j : ℕ) (u : RowView I) → get_elem? (set views pass both) j ≡ some u → unless_spent j u =
         all_set unless_spent views pass both
         (λ _. as_taker from tag reader seats all taken pass t made got ((number, sent) ∷ met) met_one)
         (λ j u ne e away. others j u ne (f.fits j u e) away) in
@@ -81,7 +81,7 @@ module _ {I : Type 0} (from : I → ℕ) (fact : I → ℕ → ℕ → ℕ → T
       → Merges (Kept from fact) pass (taker_view t made got met) other (sender_view t' number sent)
       (taker_view t made got ((number, sent) ∷ met)) spent_view
   meets pass t made got met other t' number sent items views h at apart' at' =
-      let both : View I = taker_view t made got ((number, sent) ∷ met) in
+      let both : RowView I = taker_view t made got ((number, sent) ∷ met) in
       let was : get_elem? views other ≡ some (sender_view t' number sent) =
       ⊎_elim (λ x. absurd (apart' x.0)) (λ x. x.1) (at_set views pass other both (sender_view t' number sent) at') in
       let mine = (h.fair.fits pass (taker_view t made got met) at).as_taker refl in
@@ -96,10 +96,10 @@ module _ {I : Type 0} (from : I → ℕ) (fact : I → ℕ → ℕ → ℕ → T
       }
 
   -- the step, at views that are the taker's and a sender's
-  pub meets_as : (pass : ℕ) (v : View I) (t made other : ℕ) (u : View I) (t' number : ℕ) (sent : List I) →
+  pub meets_as : (pass : ℕ) (v : RowView I) (t made other : ℕ) (u : RowView I) (t' number : ℕ) (sent : List I) →
       v ≡ taker_view t made v.taken v.met → u ≡ sender_view t' number sent
       → Merges (Kept from fact) pass v other u (taker_view v.tag v.made v.taken ((u.number, u.sent) ∷ v.met)) spent_view
   meets_as pass v t made other u t' number sent is is' =
-      subst (λ (p : View I × View I). Merges (Kept from fact) pass p.0 other p.1
+      subst (λ (p : RowView I × RowView I). Merges (Kept from fact) pass p.0 other p.1
       (taker_view p.0.tag p.0.made p.0.taken ((p.1.number, p.1.sent) ∷ p.0.met)) spent_view) (λ i. (sym is i, sym is' i))
       (meets pass t made v.taken v.met other t' number sent)

@@ -6,7 +6,7 @@ use mathlib.Core.Logic.{dite}
 use native.Mathlib.Decide.{dec_le}
 use lib.ListN.{get_elem?}
 use Rattle.crossbeam_queue.specs.Fifo.{Forks}
-use Rattle.fifo_row.specs.declared.view.View.{View}
+use Rattle.fifo_row.specs.declared.view.RowView.{RowView}
 use Rattle.fifo_row.specs.Lists.{of_sender}
 use Rattle.fifo_row.specs.Views.{sender_view, taker_view}
 use Rattle.fifo_row.specs.Rule.{FitsTaker, PassFits, Fair, Kept}
@@ -27,7 +27,7 @@ seat-other seat number new k ne = ap (λ b. cond b new (seat k)) (ne_eqb k numbe
 
 module _ {I : Type 0} (from : I → ℕ) (fact : I → ℕ → ℕ → ℕ → Type 0) where
   -- before the first sender is seated the row may have any tag
-  retagged : (tag new reader : ℕ) (seat : ℕ → Option ℕ) (all taken : List I) (views : List (View I)) (pass t : ℕ) (got : List I)
+  retagged : (tag new reader : ℕ) (seat : ℕ → Option ℕ) (all taken : List I) (views : List (RowView I)) (pass t : ℕ) (got : List I)
       (met : List (ℕ × List I))
       → Fair from fact tag reader seat all taken views → get_elem? views pass ≡ some (taker_view t 0 got met) →
       Fair from fact new reader seat all taken views
@@ -45,7 +45,7 @@ module _ {I : Type 0} (from : I → ℕ) (fact : I → ℕ → ℕ → ℕ → T
                   let r = old.as_taker p in
                   let same : u ≡ taker_view t 0 got met = some-injective u (taker_view t 0 got met)
                   (sym e ∙ (ap (get_elem? views) (r.here ∙ sym mine.here) ∙ at)) in
-                  let none_made : u.made ≡ 0 = ap (λ (w : View I). w.made) same in
+                  let none_made : u.made ≡ 0 = ap (λ (w : RowView I). w.made) same in
                   record {
                     here = r.here;
                     tag_is = λ some_made. absurd (omega (arith, some_made, none_made));
@@ -57,7 +57,7 @@ module _ {I : Type 0} (from : I → ℕ) (fact : I → ℕ → ℕ → ℕ → T
             };
       }
 
-  module _ (tag reader : ℕ) (seat : ℕ → Option ℕ) (all taken : List I) (views : List (View I)) (pass t made : ℕ) (got : List I)
+  module _ (tag reader : ℕ) (seat : ℕ → Option ℕ) (all taken : List I) (views : List (RowView I)) (pass t made : ℕ) (got : List I)
       (met : List (ℕ × List I)) (mine : FitsTaker from tag reader seat all taken pass (taker_view t made got met)) where
     abbrev seats : ℕ → Option ℕ
     seats = seat_with seat made (Some (length views))
@@ -82,7 +82,7 @@ module _ {I : Type 0} (from : I → ℕ) (fact : I → ℕ → ℕ → ℕ → T
     }
 
     -- another pass is no taker, and a sender's that was seated before
-    others : (j : ℕ) (u : View I) → j ≢ pass → PassFits from tag reader seat all taken j u → PassFits from tag reader seats all taken j u
+    others : (j : ℕ) (u : RowView I) → j ≢ pass → PassFits from tag reader seat all taken j u → PassFits from tag reader seats all taken j u
     others j u ne old = record {
       as_sender = λ p.
           let s = old.as_sender p in
@@ -105,7 +105,7 @@ module _ {I : Type 0} (from : I → ℕ) (fact : I → ℕ → ℕ → ℕ → T
     }
 
   -- the rule of a row, at the tag that its first sender is seated with
-  tagged : (reader : ℕ) (seat : ℕ → Option ℕ) (old new : ℕ) (all taken : List I) (views : List (View I)) (pass t made : ℕ) (got : List I)
+  tagged : (reader : ℕ) (seat : ℕ → Option ℕ) (old new : ℕ) (all taken : List I) (views : List (RowView I)) (pass t made : ℕ) (got : List I)
       (met : List (ℕ × List I))
       → (0 < made → t ≡ new) → Fair from fact old reader seat all taken views → get_elem? views pass ≡ some (taker_view t made got met) →
       Fair from fact new reader seat all taken views
@@ -133,8 +133,8 @@ module _ {I : Type 0} (from : I → ℕ) (fact : I → ℕ → ℕ → ℕ → T
       }
 
   -- the step, at a view that is the taker's
-  pub seats_as : (pass new : ℕ) (v : View I) → v ≡ taker_view v.tag v.made [] [] → (0 < v.made → v.tag ≡ new)
+  pub seats_as : (pass new : ℕ) (v : RowView I) → v ≡ taker_view v.tag v.made [] [] → (0 < v.made → v.tag ≡ new)
       → Forks (Kept from fact) pass v (taker_view new (v.made + 1) v.taken v.met) (sender_view new v.made [])
   seats_as pass new v is tagged' =
-      subst (λ (u : View I). Forks (Kept from fact) pass u (taker_view new (u.made + 1) u.taken u.met) (sender_view new u.made []))
+      subst (λ (u : RowView I). Forks (Kept from fact) pass u (taker_view new (u.made + 1) u.taken u.met) (sender_view new u.made []))
       (sym is) (seats_one pass new v.tag v.made [] [] tagged')

@@ -4,7 +4,7 @@ use Rattle.std.proofs.Common.{Option, append_assoc, length-append}
 use mathlib.Core.Logic.{dite}
 use native.Mathlib.Decide.{ℕ_discrete}
 use Rattle.crossbeam_queue.specs.Fifo.{Pushes}
-use Rattle.fifo_row.specs.declared.view.View.{View}
+use Rattle.fifo_row.specs.declared.view.RowView.{RowView}
 use Rattle.fifo_row.specs.Lists.{of_sender, HaveFacts}
 use Rattle.fifo_row.specs.Views.{sender_view}
 use Rattle.fifo_row.specs.Rule.{FitsSender, FitsTaker, PassFits, Fair, Kept}
@@ -30,7 +30,7 @@ module _ {I : Type 0} (from : I → ℕ) (fact : I → ℕ → ℕ → ℕ → T
         (λ ne. subst (P k) (sym (of_other k ne)) (old k))
 
     -- another sender's pass, and the taker's
-    other_sender : (j : ℕ) (u : View I) → j ≢ pass → FitsSender from tag seat all j u → FitsSender from tag seat (all ++ x ∷ []) j u
+    other_sender : (j : ℕ) (u : RowView I) → j ≢ pass → FitsSender from tag seat all j u → FitsSender from tag seat (all ++ x ∷ []) j u
     other_sender j u ne s =
         record {
           here = s.here;
@@ -42,7 +42,7 @@ module _ {I : Type 0} (from : I → ℕ) (fact : I → ℕ → ℕ → ℕ → T
     free : (k : ℕ) → seat k ≡ None → k ≢ number
     free k none same = not_none pass (sym mine.here ∙ (ap seat (sym same) ∙ none))
 
-    the_taker : (j : ℕ) (u : View I) → FitsTaker from tag reader seat all taken j u →
+    the_taker : (j : ℕ) (u : RowView I) → FitsTaker from tag reader seat all taken j u →
         FitsTaker from tag reader seat (all ++ x ∷ []) taken j u
     the_taker j u r = record {
       here = r.here;
@@ -52,7 +52,7 @@ module _ {I : Type 0} (from : I → ℕ) (fact : I → ℕ → ℕ → ℕ → T
       ended = λ k xs m. let l = r.ended k xs m in (l.0, l.1, of_other k (free k l.1) ∙ l.2);
     }
 
-    sends_fair : (views : List (View I)) → Fair from fact tag reader seat all taken views → fact x number (suc (length sent)) t →
+    sends_fair : (views : List (RowView I)) → Fair from fact tag reader seat all taken views → fact x number (suc (length sent)) t →
         length sent < 2 ^ 62
         → Fair from fact tag reader seat (all ++ x ∷ []) taken (set views pass (sender_view t number (sent ++ x ∷ [])))
     sends_fair views f it few =
@@ -75,7 +75,7 @@ module _ {I : Type 0} (from : I → ℕ) (fact : I → ℕ → ℕ → ℕ → T
   sends : (n pass t number : ℕ) (sent : List I) (x : I) → from x ≡ number → fact x number (suc (length sent)) t → length sent < 2 ^ 62
       → Pushes (Kept from fact) n pass (sender_view t number sent) x (Sends (sender_view t number sent) x)
   sends n pass t number sent x is it few items views room h at =
-      let w : View I = sender_view t number (sent ++ x ∷ []) in
+      let w : RowView I = sender_view t number (sent ++ x ∷ []) in
       let mine = (h.fair.fits pass (sender_view t number sent) at).as_sender refl in (
         w,
         record {
@@ -90,8 +90,8 @@ module _ {I : Type 0} (from : I → ℕ) (fact : I → ℕ → ℕ → ℕ → T
       )
 
   -- the step, at a view that is a sender's
-  pub sends_as : (n pass : ℕ) (v : View I) (t number : ℕ) (x : I) → v ≡ sender_view t number v.sent → from x ≡ number →
+  pub sends_as : (n pass : ℕ) (v : RowView I) (t number : ℕ) (x : I) → v ≡ sender_view t number v.sent → from x ≡ number →
       fact x number (suc (length v.sent)) t → length v.sent < 2 ^ 62
       → Pushes (Kept from fact) n pass v x (Sends v x)
   sends_as n pass v t number x is from_is it few =
-      subst (λ (u : View I). Pushes (Kept from fact) n pass u x (Sends u x)) (sym is) (sends n pass t number v.sent x from_is it few)
+      subst (λ (u : RowView I). Pushes (Kept from fact) n pass u x (Sends u x)) (sym is) (sends n pass t number v.sent x from_is it few)

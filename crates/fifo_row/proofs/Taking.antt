@@ -7,7 +7,7 @@ use mathlib.Core.Logic.{dite}
 use native.Mathlib.Decide.{dec_le}
 use lib.ListN.{get_elem?}
 use Rattle.crossbeam_queue.specs.Fifo.{Pops, Held}
-use Rattle.fifo_row.specs.declared.view.View.{View}
+use Rattle.fifo_row.specs.declared.view.RowView.{RowView}
 use Rattle.fifo_row.specs.Lists.{of_sender, Met, BeginsWith}
 use Rattle.fifo_row.specs.Ends.{Taking, AllEnded}
 use Rattle.fifo_row.specs.Views.{taker_view}
@@ -19,7 +19,7 @@ use Rattle.fifo_row.proofs.Fitting.{as_taker}
 use Rattle.fifo_row.proofs.Flowing.{met_flows}
 
 module _ {I : Type 0} (from : I → ℕ) (fact : I → ℕ → ℕ → ℕ → Type 0) where
-  takes_fair : (tag reader : ℕ) (seat : ℕ → Option ℕ) (all taken : List I) (views : List (View I)) (pass t made : ℕ) (got : List I)
+  takes_fair : (tag reader : ℕ) (seat : ℕ → Option ℕ) (all taken : List I) (views : List (RowView I)) (pass t made : ℕ) (got : List I)
       (met : List (ℕ × List I)) (x : I)
       → Fair from fact tag reader seat all taken views → get_elem? views pass ≡ some (taker_view t made got met)
       → Fair from fact tag reader seat all (taken ++ x ∷ []) (set views pass (taker_view t made (got ++ x ∷ []) met))
@@ -82,9 +82,9 @@ module _ {I : Type 0} (from : I → ℕ) (fact : I → ℕ → ℕ → ℕ → T
       )
 
   -- the step, at a view that is the taker's
-  pub takes_as : (pass : ℕ) (v : View I) (t made : ℕ) → v ≡ taker_view t made v.taken v.met →
+  pub takes_as : (pass : ℕ) (v : RowView I) (t made : ℕ) → v ≡ taker_view t made v.taken v.met →
       Pops (Kept from fact) pass v (TakesItem from fact v)
-  takes_as pass v t made is = subst (λ (u : View I). Pops (Kept from fact) pass u (TakesItem from fact u)) (sym is)
+  takes_as pass v t made is = subst (λ (u : RowView I). Pops (Kept from fact) pass u (TakesItem from fact u)) (sym is)
       (takes pass t made v.taken v.met)
 
   none_left : (items : List I) → length items ≡ 0 → items ≡ []
@@ -92,25 +92,25 @@ module _ {I : Type 0} (from : I → ℕ) (fact : I → ℕ → ℕ → ℕ → T
   none_left (x ∷ xs) e = absurd (omega arith)
 
   -- a pop that found nothing saw a state in which the row held nothing
-  pub was_empty : (v : View I) (t : Taking I) → v ≡ taker_view t.tag t.senders t.taken t.met → Held 0 (IsState from fact v) →
+  pub was_empty : (v : RowView I) (t : Taking I) → v ≡ taker_view t.tag t.senders t.taken t.met → Held 0 (IsState from fact v) →
       WasEmpty from fact t
   was_empty v t is held = subst (λ l. IsState from fact (taker_view t.tag t.senders t.taken t.met) l) (none_left held.0 held.1)
-      (subst (λ (u : View I). IsState from fact u held.0) is held.2)
+      (subst (λ (u : RowView I). IsState from fact u held.0) is held.2)
 
   -- an empty row: of each sender that was met, all was taken
   pub all_ended : (t : Taking I) → WasEmpty from fact t → AllEnded from t
   all_ended t (views, pass, h, at) k sent m =
-      let v : View I = taker_view t.tag t.senders t.taken t.met in
+      let v : RowView I = taker_view t.tag t.senders t.taken t.met in
       ap (of_sender from k) (sym (append-nil t.taken)) ∙ met_flows from fact [] views v k sent
       (record { kept = h; pass = pass; at = at; takes = refl }) m
 
   -- what was taken of a sender that was met begins all that it sent
-  pub begins_as : (v : View I) (t made : ℕ) (taken : List I) (met : List (ℕ × List I)) (k : ℕ) (sent : List I)
+  pub begins_as : (v : RowView I) (t made : ℕ) (taken : List I) (met : List (ℕ × List I)) (k : ℕ) (sent : List I)
       → v ≡ taker_view t made taken met → ((items : List I) × IsState from fact v items) → Met met k sent →
       BeginsWith (of_sender from k taken) sent
   begins_as v t made taken met k sent is seen m =
-      let u : View I = taker_view t made taken met in
-      let (views, pass, h, at) = subst (λ (x : View I). IsState from fact x seen.0) is seen.1 in (
+      let u : RowView I = taker_view t made taken met in
+      let (views, pass, h, at) = subst (λ (x : RowView I). IsState from fact x seen.0) is seen.1 in (
         of_sender from k seen.0,
         sym (of-append from k taken seen.0) ∙ met_flows from fact seen.0 views u k sent
             (record { kept = h; pass = pass; at = at; takes = refl }) m,

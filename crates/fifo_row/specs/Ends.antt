@@ -62,7 +62,7 @@ pub record Seats {I : Type 0} (senders : List (Sending I)) (taker : Taking I) (r
   pub each : (k : ℕ) → k < row.senders → slice_get senders k ≡ Some (fresh_sender row k)
   pub taker_is : taker ≡ fresh_taker row
 
--- an item is the next of its sender: that sender is of the row, and the item has its fact at the place after those that
+-- an item is the next of its sender: that sender is of the row, and the item has its fact at the position after those that
 -- were taken
 pub record IsNextItem {I : Type 0} (from : I → ℕ) (fact : I → ℕ → ℕ → ℕ → Type 0) (t : Taking I) (x : I) : Type 0 where
   pub of_row : from x < t.senders

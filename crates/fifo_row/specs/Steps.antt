@@ -6,19 +6,19 @@
 use Rattle.std.specs.Prelude.{◌≡◌, ℕ, suc, ◌<◌, ◌^◌, List, [], ◌∷◌, ◌++◌, length}
 use mathlib.Core.Option.{some}
 use lib.ListN.{get_elem?}
-use Rattle.fifo_row.specs.declared.view.View.{View}
+use Rattle.fifo_row.specs.declared.view.RowView.{RowView}
 use Rattle.fifo_row.specs.Lists.{of_sender}
 use Rattle.fifo_row.specs.Ends.{Sending, Taking}
 use Rattle.fifo_row.specs.Views.{sender_view, taker_view}
 use Rattle.fifo_row.specs.Rule.{Kept}
 
 -- a push that enters: the item is after all that this sender sent
-abbrev pub Sends : {I : Type 0} → View I → I → View I → Type 0
+abbrev pub Sends : {I : Type 0} → RowView I → I → RowView I → Type 0
 Sends v x w = w ≡ sender_view v.tag v.number (v.sent ++ x ∷ [])
 
 module _ {I : Type 0} (from : I → ℕ) (fact : I → ℕ → ℕ → ℕ → Type 0) where
-  -- a pop that takes: the item is after all that was taken, is of one of the senders, and has its fact at its place
-  abbrev pub TakesItem : View I → I → View I → Type 0
+  -- a pop that takes: the item is after all that was taken, is of one of the senders, and has its fact at its position
+  abbrev pub TakesItem : RowView I → I → RowView I → Type 0
   TakesItem v x w =
       (w ≡ taker_view v.tag v.made (v.taken ++ x ∷ []) v.met)
       × (from x < v.made)
@@ -26,11 +26,11 @@ module _ {I : Type 0} (from : I → ℕ) (fact : I → ℕ → ℕ → ℕ → T
       × (length (of_sender from (from x) v.taken) < 2 ^ 62)
 
   -- a state of the rule in which the row holds these items, and a pass knows this
-  abbrev pub IsState : View I → List I → Type 0
-  IsState v items = (views : List (View I)) × (pass : ℕ) × Kept from fact items views × (get_elem? views pass ≡ some v)
+  abbrev pub IsState : RowView I → List I → Type 0
+  IsState v items = (views : List (RowView I)) × (pass : ℕ) × Kept from fact items views × (get_elem? views pass ≡ some v)
 
   -- at one moment, in a state of the rule in which this sender had sent what it has, the row held as many items as it
-  -- has places
+  -- has room
   abbrev pub WasFull : Sending I → Type 0
   WasFull s = (items : List I) × (length items ≡ s.capacity) × IsState (sender_view s.tag s.number s.sent) items
 

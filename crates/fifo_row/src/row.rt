@@ -4,26 +4,26 @@ ghost use Rattle.crossbeam_queue.specs.Passes.{IsPassOf, ruled_capacity};
 ghost use Rattle.fifo_row.specs.Ends.{Seats, unseated};
 ghost use Rattle.fifo_row.specs.Views.{known, opening_view, sender_view, taker_view};
 
-use crate::item::Item;
-use crate::rule::{Label, Queue, Seat};
+use crate::item::RowItem;
+use crate::rule::{Label, Queue, SeatSender};
 use crate::sender::Sender;
 use crate::taker::Taker;
-use crate::view::View;
+use crate::view::RowView;
 use crossbeam_queue::Pass;
 use std::alloc::{AllocError, Global};
 use std::marker::{Brand, Model};
 
 /// A row that holds at most `capacity` items of a number of senders. Its tag says whose row it is.
 #[derive(Drop)]
-pub struct Row<I: Item> {
+pub struct Row<I: RowItem> {
     queue: Queue<I>,
-    first: Option<Pass<I, View<I>>>,
+    first: Option<Pass<I, RowView<I>>>,
     alloc: Global,
     senders: u16,
     tag: u16,
 }
 
-impl<I: Item> Model for Row<I> {
+impl<I: RowItem> Model for Row<I> {
     ghost use Rattle.std.specs.Prelude.{◌≡◌, ◌<◌, is_none, IfSome};
     ghost use Rattle.crossbeam_queue.specs.Passes.{IsPassOf, ruled_capacity};
     ghost use Rattle.fifo_row.specs.Ends.{Fresh};
@@ -42,7 +42,7 @@ impl<I: Item> Model for Row<I> {
     ghost invariant = { λ r. (0 < r.senders) × IfSome r.first (λ p. IsPassOf r.queue p × (known p ≡ opening_view)) };
 }
 
-impl<I: Item> Row<I> {
+impl<I: RowItem> Row<I> {
     /// A row that holds nothing, of at least one sender and with room for at least one item. It takes memory for its
     /// capacity, and its ends take some once more, at [`Row::seats`].
     pub fn new(alloc: Global, senders: u16, capacity: usize, tag: u16) -> Result<Row<I>, AllocError>
@@ -74,10 +74,10 @@ impl<I: Item> Row<I> {
 }
 
 /// Seats the senders of a row, whose first pass becomes the taker's.
-fn seat_all<'r, I: Item>(
+fn seat_all<'r, I: RowItem>(
     alloc: Global,
     queue: &'r Queue<I>,
-    mut pass: Pass<I, View<I>>,
+    mut pass: Pass<I, RowView<I>>,
     senders: u16,
     tag: u16,
 ) -> Result<(Vec<Sender<'r, I>>, Taker<'r, I>), AllocError>
@@ -96,16 +96,16 @@ fn seat_all<'r, I: Item>(
 }
 
 /// Seats the next sender of a row with this tag, in which nothing was taken and nobody met.
-fn seat_next<I: Item, L: Label>(
+fn seat_next<I: RowItem, L: Label>(
     queue: &Queue<I>,
-    pass: &mut Pass<I, View<I>>,
+    pass: &mut Pass<I, RowView<I>>,
     tag: u16,
-) -> Pass<I, View<I>>
+) -> Pass<I, RowView<I>>
     requires label { tag ≡ L.tag }
     requires pass { IsPassOf queue.now pass.old × (known pass.old ≡ taker_view (known pass.old).tag (known pass.old).made [] []) }
     requires tagged { 0 < (known pass.old).made → (known pass.old).tag ≡ tag }
     ensures taker { IsPassOf queue.now pass.new × (known pass.new ≡ taker_view tag ((known pass.old).made + 1) [] []) }
     ensures sender { IsPassOf queue.now result × (known result ≡ sender_view tag (known pass.old).made []) }
 {
-    queue.another::<Seat<L>>(pass)
+    queue.another::<SeatSender<L>>(pass)
 }

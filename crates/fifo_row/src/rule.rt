@@ -1,18 +1,18 @@
 //! The rule of a row, and the six kinds of step that keep it. A push enters, or finds the row full. A pop takes, or
 //! finds it empty. The split seats a sender, and the join meets one that has ended.
-use crate::item::Item;
-use crate::view::View;
+use crate::item::RowItem;
+use crate::view::RowView;
 use crossbeam_queue::RuledArrayQueue;
 use crossbeam_queue::protocol::{Join, Lesson, Outcome, Protocol, Split};
 use std::marker::{Brand, PhantomData};
 
 /// A queue under the rule of a row.
-pub type Queue<I> = RuledArrayQueue<I, View<I>, InOrder>;
+pub type Queue<I> = RuledArrayQueue<I, RowView<I>, InOrder>;
 
 /// The rule: of each sender, what was taken and then what is held is what it sent.
 pub struct InOrder;
 
-impl<I: Item> Protocol<I, View<I>> for InOrder {
+impl<I: RowItem> Protocol<I, RowView<I>> for InOrder {
     ghost use Rattle.fifo_row.specs.Rule.{Kept};
     ghost use Rattle.fifo_row.specs.Views.{opening_view};
 
@@ -24,13 +24,13 @@ impl<I: Item> Protocol<I, View<I>> for InOrder {
 /// A push by a sender.
 pub struct Push;
 
-impl<I: Item> Outcome<I, View<I>> for Push {
+impl<I: RowItem> Outcome<I, RowView<I>> for Push {
     ghost use Rattle.fifo_row.specs.Steps.{Sends};
 
     ghost then = { Sends };
 }
 
-impl<I: Item> Lesson<I, View<I>> for Push {
+impl<I: RowItem> Lesson<I, RowView<I>> for Push {
     ghost use Rattle.fifo_row.specs.Steps.{IsState};
 
     ghost fact = { IsState I.from I.fact };
@@ -39,13 +39,13 @@ impl<I: Item> Lesson<I, View<I>> for Push {
 /// A pop by the taker.
 pub struct Pop;
 
-impl<I: Item> Outcome<I, View<I>> for Pop {
+impl<I: RowItem> Outcome<I, RowView<I>> for Pop {
     ghost use Rattle.fifo_row.specs.Steps.{TakesItem};
 
     ghost then = { TakesItem I.from I.fact };
 }
 
-impl<I: Item> Lesson<I, View<I>> for Pop {
+impl<I: RowItem> Lesson<I, RowView<I>> for Pop {
     ghost use Rattle.fifo_row.specs.Steps.{IsState};
 
     ghost fact = { IsState I.from I.fact };
@@ -63,9 +63,9 @@ impl Label for Brand {
 }
 
 /// The taker of a row with this tag seats the next sender.
-pub struct Seat<L>(PhantomData<L>);
+pub struct SeatSender<L>(PhantomData<L>);
 
-impl<I, L: Label> Split<View<I>> for Seat<L> {
+impl<I, L: Label> Split<RowView<I>> for SeatSender<L> {
     ghost use Rattle.std.specs.Prelude.{[], ◌+◌};
     ghost use Rattle.fifo_row.specs.Views.{sender_view, taker_view};
 
@@ -77,7 +77,7 @@ impl<I, L: Label> Split<View<I>> for Seat<L> {
 /// The taker meets a sender that has ended.
 pub struct Meet;
 
-impl<I> Join<View<I>> for Meet {
+impl<I> Join<RowView<I>> for Meet {
     ghost use Rattle.std.specs.Prelude.{◌∷◌};
     ghost use Rattle.fifo_row.specs.Views.{spent_view, taker_view};
 

@@ -5,9 +5,9 @@ ghost use Rattle.fifo_row.specs.Ends.{first_sending};
 ghost use Rattle.fifo_row.specs.Steps.{WasFull};
 ghost use Rattle.fifo_row.specs.Views.{known, sender_view};
 
-use crate::item::Item;
+use crate::item::RowItem;
 use crate::rule::{Push, Queue};
-use crate::view::View;
+use crate::view::RowView;
 use crossbeam_queue::Pass;
 use std::marker::Model;
 use std::sync::Wait;
@@ -15,21 +15,21 @@ use std::sync::Wait;
 /// What a sender sends at most, so that the ends can count it.
 const MOST: u64 = 1 << 62;
 
-/// An item that found no place, because the row was full.
+/// An item that was not sent, because the row was full.
 #[derive(Drop)]
 pub struct Full<I>(pub I);
 
 /// One sender's end of a row. Contracts see which row it is of, and all that it sent.
 #[derive(Drop)]
-pub struct Sender<'r, I: Item> {
+pub struct Sender<'r, I: RowItem> {
     queue: &'r Queue<I>,
-    pass: Pass<I, View<I>>,
+    pass: Pass<I, RowView<I>>,
     tag: u16,
     number: u16,
     count: u64,
 }
 
-impl<'r, I: Item> Model for Sender<'r, I> {
+impl<'r, I: RowItem> Model for Sender<'r, I> {
     ghost use Rattle.std.specs.Prelude.{◌≡◌, ◌≤◌, ◌^◌, length};
     ghost use Rattle.crossbeam_queue.specs.Passes.{IsPassOf, ruled_capacity};
     ghost use Rattle.fifo_row.specs.Ends.{Sending};
@@ -51,11 +51,11 @@ impl<'r, I: Item> Model for Sender<'r, I> {
         × (s.count ≤ 2 ^ 62) };
 }
 
-impl<'r, I: Item> Sender<'r, I> {
+impl<'r, I: RowItem> Sender<'r, I> {
     /// The end whose pass this is, which has sent nothing.
     pub(crate) fn new(
         queue: &'r Queue<I>,
-        pass: Pass<I, View<I>>,
+        pass: Pass<I, RowView<I>>,
         tag: u16,
         number: u16,
     ) -> Sender<'r, I>
@@ -72,7 +72,7 @@ impl<'r, I: Item> Sender<'r, I> {
     }
 
     /// Ends the sender, and gives its pass.
-    pub(crate) fn into_pass(self) -> Pass<I, View<I>>
+    pub(crate) fn into_pass(self) -> Pass<I, RowView<I>>
         ensures row { (result.table_id ≡ self.entry.row) × (result.me.1 ≡ []) }
         ensures known { known result ≡ sender_view self.entry.tag self.entry.number self.entry.sent }
     {
@@ -87,7 +87,7 @@ impl<'r, I: Item> Sender<'r, I> {
         self.count
     }
 
-    /// Sends an item of this sender, which has its fact at the place after all that was sent. It takes no memory, and
+    /// Sends an item of this sender, which has its fact at the position after all that was sent. It takes no memory, and
     /// may wait; after 2^62 items it waits for ever.
     ///
     /// Error: the row was full at one moment of the call. The item is handed back, and nothing was sent.

@@ -6,24 +6,24 @@ ghost use Rattle.fifo_row.specs.Ends.{AllEnded, IsNextItem, first_taking};
 ghost use Rattle.fifo_row.specs.Steps.{WasEmpty};
 ghost use Rattle.fifo_row.specs.Views.{known, taker_view};
 
-use crate::item::Item;
+use crate::item::RowItem;
 use crate::rule::{Meet, Pop, Queue};
 use crate::sender::Sender;
-use crate::view::View;
+use crate::view::RowView;
 use crossbeam_queue::Pass;
 use std::marker::Model;
 use std::sync::Wait;
 
 /// The taker's end of a row. Contracts see which row it is of, all that was taken, and the senders that were met.
 #[derive(Drop)]
-pub struct Taker<'r, I: Item> {
+pub struct Taker<'r, I: RowItem> {
     queue: &'r Queue<I>,
-    pass: Pass<I, View<I>>,
+    pass: Pass<I, RowView<I>>,
     tag: u16,
     counts: Vec<u64>,
 }
 
-impl<'r, I: Item> Model for Taker<'r, I> {
+impl<'r, I: RowItem> Model for Taker<'r, I> {
     ghost use Rattle.std.specs.Prelude.{◌≡◌, ◌<◌, ℕ, length, slice_index};
     ghost use Rattle.crossbeam_queue.specs.Passes.{IsPassOf, ruled_capacity};
     ghost use Rattle.fifo_row.specs.Ends.{Taking};
@@ -46,11 +46,11 @@ impl<'r, I: Item> Model for Taker<'r, I> {
         × ((k : ℕ) → k < length t.counts.items → slice_index t.counts.items k ≡ length (of_sender I.from k (known t.pass).taken)) };
 }
 
-impl<'r, I: Item> Taker<'r, I> {
+impl<'r, I: RowItem> Taker<'r, I> {
     /// The end whose pass this is, with a count of 0 for each sender.
     pub(crate) fn new(
         queue: &'r Queue<I>,
-        pass: Pass<I, View<I>>,
+        pass: Pass<I, RowView<I>>,
         tag: u16,
         counts: Vec<u64>,
     ) -> Taker<'r, I>

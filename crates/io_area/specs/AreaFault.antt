@@ -3,7 +3,7 @@ use Rattle.std.specs.Prelude.{◌≡◌, ◌≢◌, ℕ, ◌+◌, ◌%◌, ◌^�
 use Rattle.io_area.specs.declared.error.AreaError.{AreaError}
 use Rattle.io_area.specs.declared.error.AreaError.TheVariants.{Misaligned, TooLong, PastTop, NoMemory}
 
--- the place and the number of bytes are allowed
+-- the address and the number of bytes are allowed
 abbrev pub NoAreaFault : ℕ → ℕ → Type 0
 NoAreaFault base count = (base % 8 ≡ 0) × (count ≤ 8192) × (base + count ≤ 2 ^ 24)
 

@@ -21,13 +21,13 @@ with_bytes m at new = record {
   bytes = take (at - m.base) m.bytes ++ new ++ drop (at - m.base + length new) m.bytes;
 }
 
--- the place of `count` bytes from `at` among the bytes of the area, if they are in it
+-- the offset of `count` bytes from `at` among the bytes of the area, if they are in it
 pub record IsOffset (m : Storage) (at count from : ℕ) : Type 0 where
   pub lies : lies_in m at count ≡ true
   pub offset : from + m.base ≡ at
   pub room : from + count ≤ length m.bytes
 
--- the bytes may differ, the place and the length do not
+-- the bytes may differ, the address and the length do not
 pub record SamePlace (old new : Storage) : Type 0 where
   pub base : new.base ≡ old.base
   pub len : length new.bytes ≡ length old.bytes

@@ -131,7 +131,7 @@ impl Area {
         Ok(())
     }
 
-    /// The place in `bytes` of `count` bytes from `at`, if they are in the area.
+    /// The offset in `bytes` of `count` bytes from `at`, if they are in the area.
     fn offset(&self, at: u32, count: usize) -> Option<usize>
         requires { 0 < count }
         ensures { MatchOption result (lies_in self.now at count ≡ false) (IsOffset self.now at count) }

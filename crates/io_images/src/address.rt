@@ -36,7 +36,7 @@ impl Address {
         Address { value }
     }
 
-    /// The address that a CSW has for the CCW at a place: eight more, modulo 2^24 (Principles of
+    /// The address that a CSW has for the CCW at an address: eight more, modulo 2^24 (Principles of
     /// Operation, chapter 16, "CCW Address").
     pub fn stored(at: u32) -> Address
         ensures { result ≡ (at + 8) % 2 ^ 24 }

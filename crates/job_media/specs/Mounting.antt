@@ -12,13 +12,13 @@ use Rattle.tape_unit.specs.Recording.{is_recordable, resized}
 use Rattle.tape_unit.specs.Reel.{bytes_of}
 use Rattle.any_device.specs.declared.device.AnyDevice.{AnyDevice}
 use Rattle.any_device.specs.declared.device.AnyDevice.TheVariants as device
-use Rattle.aws_tape.specs.declared.image.Image.{Image as TapeImage}
-use Rattle.ckd_image.specs.declared.kept.Image.{Image as DiskImage}
+use Rattle.aws_tape.specs.declared.image.TapeImage.{TapeImage}
+use Rattle.ckd_image.specs.declared.kept.DiskImage.{DiskImage}
 use Rattle.job_script.specs.declared.fault.FaultName.TheVariants as names
 use Rattle.job_script.specs.declared.fault.JobError.{JobError}
 use Rattle.job_script.specs.declared.fault.JobError.TheVariants as errors
-use Rattle.job_script.specs.declared.set_up.Medium.{Medium}
-use Rattle.job_script.specs.declared.set_up.Medium.TheVariants as medium
+use Rattle.job_script.specs.declared.set_up.InitialMedium.{InitialMedium}
+use Rattle.job_script.specs.declared.set_up.InitialMedium.TheVariants as medium
 use Rattle.job_script.specs.declared.set_up.UnitSetup.{UnitSetup}
 use Rattle.medium_image.specs.declared.image.Image.{Image}
 use Rattle.medium_image.specs.declared.image.Image.TheVariants.{Disk, Tape}
@@ -60,13 +60,13 @@ tape_from image bytes items unit =
     else Ok (device.Tape (wound (resized image.tape bytes) unit.faults.items), kept.Tape image.layout)
 
 -- a disk unit gets the image of a disk, and no other
-abbrev pub for_disk : DiskImage → Medium → UnitSetup → Result Mounted MediaError
+abbrev pub for_disk : DiskImage → InitialMedium → UnitSetup → Result Mounted MediaError
 for_disk image (medium.Disk declared records) unit = disk_from image declared records.items unit
 for_disk image (medium.Tape bytes items) unit = unfit unit
 for_disk image (medium.Printer lines pages) unit = unfit unit
 
 -- a tape unit gets the image of a tape, and no other
-abbrev pub for_tape : TapeImage → Medium → UnitSetup → Result Mounted MediaError
+abbrev pub for_tape : TapeImage → InitialMedium → UnitSetup → Result Mounted MediaError
 for_tape image (medium.Disk declared records) unit = unfit unit
 for_tape image (medium.Tape bytes items) unit = tape_from image bytes items.items unit
 for_tape image (medium.Printer lines pages) unit = unfit unit

@@ -5,7 +5,7 @@ ghost use Rattle.job_media.specs.Mounting.{AnswersMounting, for_disk, for_tape, 
 
 use any_device::AnyDevice;
 use device_port::MountError;
-use job_script::{FaultName, JobError, Medium, UnitSetup};
+use job_script::{FaultName, InitialMedium, JobError, UnitSetup};
 use medium_image::{Image, Kept, geometry};
 use std::alloc::Global;
 
@@ -61,18 +61,18 @@ fn not_mounted(unit: &UnitSetup, reason: MountError) -> MediaError
 
 fn mounted_disk(
     alloc: Global,
-    image: ckd_image::Image,
+    image: ckd_image::DiskImage,
     unit: &UnitSetup,
 ) -> Result<(AnyDevice, Kept), MediaError>
     ensures { AnswersMounting (for_disk image unit.now.medium unit.now) result }
 {
-    let Medium::Disk(declared, records) = &unit.medium else {
+    let InitialMedium::Disk(declared, records) = &unit.medium else {
         return Err(MediaError::Unit(unit.line));
     };
     if !records.is_empty() || *declared != geometry(&image) {
         return Err(MediaError::Unit(unit.line));
     }
-    let ckd_image::Image { volume, kept } = image;
+    let ckd_image::DiskImage { volume, kept } = image;
     match volume.mount(alloc, &unit.faults) {
         Ok(disk) => Ok((AnyDevice::Disk(disk), Kept::Disk(kept))),
         Err(refused) => Err(not_mounted(unit, refused.reason)),
@@ -81,18 +81,18 @@ fn mounted_disk(
 
 fn mounted_tape(
     alloc: Global,
-    image: aws_tape::Image,
+    image: aws_tape::TapeImage,
     unit: &UnitSetup,
 ) -> Result<(AnyDevice, Kept), MediaError>
     ensures { AnswersMounting (for_tape image unit.now.medium unit.now) result }
 {
-    let Medium::Tape(bytes, items) = &unit.medium else {
+    let InitialMedium::Tape(bytes, items) = &unit.medium else {
         return Err(MediaError::Unit(unit.line));
     };
     if !items.is_empty() {
         return Err(MediaError::Unit(unit.line));
     }
-    let aws_tape::Image { mut tape, layout } = image;
+    let aws_tape::TapeImage { mut tape, layout } = image;
     if tape.resize(*bytes).is_err() {
         return Err(MediaError::Unit(unit.line));
     }

@@ -7,7 +7,7 @@ ghost use Rattle.job_media.specs.Sizes.{is_hyphen, leaves_disk, leaves_size, lea
 
 use medium_image::Size;
 use post_lines::put_decimal;
-use script_words::{Words, decimal_in, is_word};
+use script_words::{LineWords, decimal_in, is_word};
 use std::alloc::{AllocError, Global};
 
 /// The text of a script, in which the lines of units have the sizes of their images in place of hyphens: `tape U ISC -`,
@@ -17,7 +17,7 @@ pub fn with_sizes(alloc: Global, text: &[u8], sizes: &[Option<Size>]) -> Result<
     ensures { IfOk result (λ whole. whole.items ≡ text_with_sizes sizes.now text.now) }
 {
     let mut whole = Vec::new(alloc);
-    let mut line = Words::new();
+    let mut line = LineWords::new();
     let mut left = line.scan(text);
     push_line(&mut whole, &line, sizes)?;
     while let Some(text) = left {
@@ -32,7 +32,7 @@ pub fn with_sizes(alloc: Global, text: &[u8], sizes: &[Option<Size>]) -> Result<
 #[tactic(auto, unfolding(crate::specs::Sizes::sized_line))]
 fn push_line(
     whole: &mut Vec<u8>,
-    line: &Words<'_>,
+    line: &LineWords<'_>,
     sizes: &[Option<Size>],
 ) -> Result<(), AllocError>
     ensures { OnOk result (whole.new.items ≡ whole.old.items ++ sized_line sizes.now line.now.line.now) }
@@ -48,7 +48,7 @@ fn push_line(
 }
 
 /// The size of the image of the unit that a line speaks of.
-fn size_of_line(line: &Words<'_>, sizes: &[Option<Size>]) -> Option<Size>
+fn size_of_line(line: &LineWords<'_>, sizes: &[Option<Size>]) -> Option<Size>
     ensures { result ≡ size_of_line sizes.now (words line.now.line.now) }
 {
     match decimal_in(line.word(1), 0, 63) {
@@ -58,7 +58,7 @@ fn size_of_line(line: &Words<'_>, sizes: &[Option<Size>]) -> Option<Size>
 }
 
 /// Whether a line leaves a size of this kind to the image.
-fn leaves_size(size: Size, line: &Words<'_>) -> bool
+fn leaves_size(size: Size, line: &LineWords<'_>) -> bool
     ensures { result ≡ leaves_size size (words line.now.line.now) }
 {
     match size {
@@ -68,7 +68,7 @@ fn leaves_size(size: Size, line: &Words<'_>) -> bool
 }
 
 /// Whether a line is that of a disk, with one hyphen for all its numbers, or one for each.
-fn leaves_disk(line: &Words<'_>) -> bool
+fn leaves_disk(line: &LineWords<'_>) -> bool
     ensures { result ≡ leaves_disk (words line.now.line.now) }
 {
     if !is_word(line.word(0), b"disk") || !is_hyphen(line, 3) {
@@ -82,14 +82,14 @@ fn leaves_disk(line: &Words<'_>) -> bool
 }
 
 /// Whether a line is that of a tape, with a hyphen for its number.
-fn leaves_tape(line: &Words<'_>) -> bool
+fn leaves_tape(line: &LineWords<'_>) -> bool
     ensures { result ≡ leaves_tape (words line.now.line.now) }
 {
     is_word(line.word(0), b"tape") && is_hyphen(line, 3) && line.count() == 4
 }
 
 /// Whether a word of a line is a hyphen.
-fn is_hyphen(line: &Words<'_>, place: usize) -> bool
+fn is_hyphen(line: &LineWords<'_>, place: usize) -> bool
     requires { place < 8 }
     ensures { result ≡ is_hyphen place (words line.now.line.now) }
 {
@@ -97,7 +97,7 @@ fn is_hyphen(line: &Words<'_>, place: usize) -> bool
 }
 
 /// Adds the first three words of a line, and then the numbers of a size.
-fn push_sized(whole: &mut Vec<u8>, size: Size, line: &Words<'_>) -> Result<(), AllocError>
+fn push_sized(whole: &mut Vec<u8>, size: Size, line: &LineWords<'_>) -> Result<(), AllocError>
     ensures { OnOk result (whole.new.items ≡ whole.old.items ++ sized size (words line.now.line.now)) }
 {
     push_word(whole, line.word(0))?;

@@ -14,7 +14,7 @@ use Rattle.any_device.specs.Devices.{any_device}
 use Rattle.job_script.specs.declared.fault.JobError.{JobError}
 use Rattle.job_script.specs.declared.fault.JobError.TheVariants as faults
 use Rattle.job_script.specs.declared.fault.FaultName.TheVariants as names
-use Rattle.job_script.specs.declared.command.Command.{Command}
+use Rattle.job_script.specs.declared.command.ScriptCommand.{ScriptCommand}
 use Rattle.job_script.specs.declared.set_up.Opening.{Opening}
 use Rattle.job_script.specs.declared.set_up.UnitSetup.{UnitSetup}
 use Rattle.job_script.specs.Views.{action_said, command_said, opening_said, unit_said}
@@ -250,20 +250,20 @@ dcbs_opened book openings k whole over so_far =
     sym so_far ∙ ap (open_all (without_spare book)) (none_left_of opening_said openings k over) ∙ none_left (without_spare book)
 
 -- the requests, one after another
-pub command_tried : (commands : List Command) (k : ℕ) (command : Command) (whole : Result (Unit {0}) FaultAt)
+pub command_tried : (commands : List ScriptCommand) (k : ℕ) (command : ScriptCommand) (whole : Result (Unit {0}) FaultAt)
     → k < length commands → command ≡ get_or commands k command → is_doable (action_said command.action) ≡ true
     → tried (map command_said (drop k commands)) ≡ whole → tried (map command_said (drop (k + 1) commands)) ≡ whole
 command_tried commands k command whole within is can so_far =
     sym (one_tried (command_said command) (map command_said (drop (k + 1) commands)) can)
     ∙ ap tried (sym (left_of command_said commands k command within is)) ∙ so_far
 
-pub command_untried : (commands : List Command) (k : ℕ) (command : Command) (whole : Result (Unit {0}) FaultAt)
+pub command_untried : (commands : List ScriptCommand) (k : ℕ) (command : ScriptCommand) (whole : Result (Unit {0}) FaultAt)
     → k < length commands → command ≡ get_or commands k command → is_doable (action_said command.action) ≡ false
     → tried (map command_said (drop k commands)) ≡ whole → whole ≡ Err (record { line = command.line; name = names.Request })
 command_untried commands k command whole within is cannot so_far =
     sym so_far ∙ ap tried (left_of command_said commands k command within is)
     ∙ one_untried (command_said command) (map command_said (drop (k + 1) commands)) cannot
 
-pub commands_tried : (commands : List Command) (k : ℕ) (whole : Result (Unit {0}) FaultAt) → length commands ≤ k
+pub commands_tried : (commands : List ScriptCommand) (k : ℕ) (whole : Result (Unit {0}) FaultAt) → length commands ≤ k
     → tried (map command_said (drop k commands)) ≡ whole → whole ≡ Ok tt
 commands_tried commands k whole over so_far = sym so_far ∙ ap tried (none_left_of command_said commands k over) ∙ all_tried

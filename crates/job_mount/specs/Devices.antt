@@ -24,11 +24,11 @@ use Rattle.job_script.specs.Said.{MediumSaid, RecordSaid, UnitSaid, disk, printe
 abbrev pub track_number_of : Geometry → RecordSaid → ℕ
 track_number_of g r = track_number g.heads r.cylinder r.head
 
--- a record lies on this track
+-- a record is on this track
 abbrev pub lies_on : Geometry → ℕ → RecordSaid → Bool
 lies_on g track r = track_number_of g r == track
 
--- a record as it lies on its track
+-- a record as it is on its track
 abbrev pub record_on : RecordSaid → Record
 record_on r = record { id = id_on r.cylinder r.head r.number; key = r.key; content = r.content }
 
@@ -51,7 +51,7 @@ track_has_room g records r = nat_le (bytes_of_records (records_on g records (tra
 abbrev pub fits_disk : Geometry → List RecordSaid → List DeviceFault → Bool
 fits_disk g records faults = is_script faults && list_all (is_record g) records && list_all (track_has_room g records) records
 
--- a track
+-- the track with this number, with its records
 abbrev pub track_with : Geometry → List RecordSaid → ℕ → TrackState
 track_with g records track = record { size = g.track_bytes; records = records_on g records track }
 

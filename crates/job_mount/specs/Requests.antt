@@ -7,11 +7,11 @@ use Rattle.request_piece.specs.Places.{is_ecb_place, is_iob_place, is_program_pl
 use Rattle.request_piece.specs.Requests.{NoFault, iob_at}
 use Rattle.job_script.specs.declared.command.Action.{Action}
 use Rattle.job_script.specs.declared.command.Action.TheVariants as actions
-use Rattle.job_script.specs.declared.command.Command.{Command}
+use Rattle.job_script.specs.declared.command.ScriptCommand.{ScriptCommand}
 use Rattle.job_script.specs.declared.command.Excp.{Excp}
 use Rattle.job_script.specs.Said.{ActionSaid, ExcpSaid, close, excp, purge, purge_task, reset, wait}
 
--- the IOB, the ECB and the channel program have their places in the area, and the IOB names the DCB
+-- the IOB, the ECB and the channel program are at valid addresses in the area, and the IOB names the DCB
 abbrev pub is_request : ExcpSaid → Bool
 is_request e =
     is_iob_place e.area e.iob && is_ecb_place e.area e.iob (iob_at e.area e.iob).ecb
@@ -45,5 +45,5 @@ excp_of (actions.Reset dcb) = None
 excp_of actions.Wait = None
 
 -- if the command issues a request, it can be made
-abbrev pub CanBeDone : Command → Type 0
+abbrev pub CanBeDone : ScriptCommand → Type 0
 CanBeDone c = ForSome (excp_of c.action) CanIssue

@@ -41,7 +41,7 @@ stored_book = with_dcb (opening (Disk (disk_with one_track (four_bytes ∷ []) [
 abbrev pub then_line : List ℕ → List (List ℕ)
 then_line text = stored_script ++ text ∷ []
 
--- two tracks, the first record of which lies on the second track
+-- two tracks, whose first record is on the second track
 abbrev pub two_tracks : Geometry
 two_tracks = record { cylinders = 1; heads = 2; track_bytes = 40 }
 

@@ -14,7 +14,7 @@ use crate::device::mounted;
 use crate::requests::can_be_done;
 use any_device::AnyDevice;
 use device_port::MountError;
-use job_script::{Command, FaultName, JobError, Opening, Script, UnitSetup};
+use job_script::{FaultName, JobError, Opening, Script, ScriptCommand, UnitSetup};
 use std::alloc::{AllocError, Global};
 use std::vec::IntoIter;
 use unit_book::{OpenError, UnitBook};
@@ -160,7 +160,7 @@ fn earlier(found: Option<usize>, line: usize) -> usize
 }
 
 /// Tries each request in the order of their lines.
-fn try_requests(commands: &[Command]) -> Result<(), JobError>
+fn try_requests(commands: &[ScriptCommand]) -> Result<(), JobError>
     ensures exact { Tries result (tried (map command_said commands.now)) }
     ensures each { OnOk result (All CanBeDone commands.now) }
 {

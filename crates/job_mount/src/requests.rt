@@ -7,7 +7,7 @@ ghost use Rattle.request_piece.specs.Requests.{request_of};
 ghost use Rattle.job_mount.specs.Requests.{CanBeDone, CanIssue, is_doable, is_issuable};
 ghost use Rattle.job_script.specs.Views.{action_said, excp_said};
 
-use job_script::{Action, Command, Excp};
+use job_script::{Action, Excp, ScriptCommand};
 use request_piece::{Name, Posted, Request, RequestError};
 use std::alloc::{AllocError, Global};
 
@@ -23,7 +23,7 @@ pub fn can_issue(excp: &Excp) -> bool
 }
 
 /// Whether the request of a command can be made, if it issues one.
-pub(crate) fn can_be_done(command: &Command) -> bool
+pub(crate) fn can_be_done(command: &ScriptCommand) -> bool
     ensures value { result ≡ is_doable (action_said command.now.action) }
     ensures facts { OnTrue result (CanBeDone command.now) }
 {

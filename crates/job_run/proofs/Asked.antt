@@ -7,10 +7,10 @@ use Rattle.std.proofs.lemmas.List.{get_or-map, get_or-set_other, length-map, len
 use Rattle.std.proofs.lemmas.Grind.{get_or-set_at}
 use Rattle.std.proofs.lemmas.Result.{on_ok_weaker}
 use Rattle.excp_system.specs.Controls.{asked_of, asks}
-use Rattle.excp_system.specs.declared.control.Control.{Control}
+use Rattle.unit_book.specs.declared.control.Control.{Control}
 use Rattle.job_script.specs.declared.command.Action.{Action}
 use Rattle.job_script.specs.declared.command.Action.TheVariants.{Excp, Purge, PurgeTask, Close, Reset, Wait}
-use Rattle.job_script.specs.declared.command.Command.{Command}
+use Rattle.job_script.specs.declared.command.ScriptCommand.{ScriptCommand}
 use Rattle.job_script.specs.Views.{action_said, command_said}
 use Rattle.job_run.specs.Controls.{asked_controls, control_to}
 use Rattle.job_run.specs.Sending.{AsksSome, asks_each, asks_of, does_all}
@@ -47,18 +47,18 @@ asks_keep (Close dcb) asked = length-set asked dcb.unit _
 asks_keep (Reset dcb) asked = length-set asked dcb.unit _
 asks_keep Wait asked = refl
 
-own_by : (unit : ℕ) (b : Bool) (c : Command) (asked : List (List Control)) → unit < length asked →
+own_by : (unit : ℕ) (b : Bool) (c : ScriptCommand) (asked : List (List Control)) → unit < length asked →
     asked_of (if b then asks_of c.action asked else asked) unit
     ≡ asked_of asked unit ++ (if b then control_to unit (action_said c.action) else [])
 own_by unit true c asked within = asks_to unit c.action asked within
 own_by unit false c asked within = sym (append-nil (asked_of asked unit))
 
-keep_by : (b : Bool) (c : Command) (asked : List (List Control)) → length (if b then asks_of c.action asked else asked) ≡ length asked
+keep_by : (b : Bool) (c : ScriptCommand) (asked : List (List Control)) → length (if b then asks_of c.action asked else asked) ≡ length asked
 keep_by true c asked = asks_keep c.action asked
 keep_by false c asked = refl
 
 -- WHAT A TASK ASKS of a unit: the controls of its commands there, after what it had asked
-pub asks_controls : (task unit : ℕ) (commands : List Command) (asked : List (List Control)) → unit < length asked →
+pub asks_controls : (task unit : ℕ) (commands : List ScriptCommand) (asked : List (List Control)) → unit < length asked →
     asked_of (asks_all task commands asked) unit ≡ asked_of asked unit ++ asked_controls task unit (map command_said commands)
 unfolding does_all asked_controls
 asks_controls task unit [] asked within = sym (append-nil (asked_of asked unit))

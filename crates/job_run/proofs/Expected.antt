@@ -4,7 +4,7 @@ use Rattle.std.proofs.lemmas.Bool.{eqb-true}
 use Rattle.std.proofs.lemmas.Bool.Decides.{nat_tests}
 use Rattle.job_script.specs.declared.command.Action.{Action}
 use Rattle.job_script.specs.declared.command.Action.TheVariants.{Excp, Purge, PurgeTask, Close, Reset, Wait}
-use Rattle.job_script.specs.declared.command.Command.{Command}
+use Rattle.job_script.specs.declared.command.ScriptCommand.{ScriptCommand}
 use Rattle.job_script.specs.declared.command.Excp.{Excp as OneExcp}
 use Rattle.job_script.specs.Said.{ExcpSaid}
 use Rattle.job_script.specs.Views.{action_said, command_said, excp_said}
@@ -50,16 +50,17 @@ expects_keep (Close dcb) slots = refl
 expects_keep (Reset dcb) slots = refl
 expects_keep Wait slots = refl
 
-one_by : (u : ℕ) (b : Bool) (c : Command) (slots : List (List SlotState)) (rest : List ExcpSaid) → u < length slots →
+one_by : (u : ℕ) (b : Bool) (c : ScriptCommand) (slots : List (List SlotState)) (rest : List ExcpSaid) → u < length slots →
     grown (at (if b then expects c.action slots else slots) u) rest ≡ grown (at slots u) ((if b then excp_to u (action_said c.action) else []) ++ rest)
 one_by u true c slots rest within = expects_to u c.action slots rest within
 one_by u false c slots rest within = refl
 
-keep_by : (b : Bool) (c : Command) (slots : List (List SlotState)) → length (if b then expects c.action slots else slots) ≡ length slots
+keep_by : (b : Bool) (c : ScriptCommand) (slots : List (List SlotState)) →
+    length (if b then expects c.action slots else slots) ≡ length slots
 keep_by true c slots = expects_keep c.action slots
 keep_by false c slots = refl
 
-pub expects_at : (task u : ℕ) (commands : List Command) (slots : List (List SlotState)) → u < length slots →
+pub expects_at : (task u : ℕ) (commands : List ScriptCommand) (slots : List (List SlotState)) → u < length slots →
     at (does_all expects task commands slots) u ≡ grown (at slots u) (excps task u (map command_said commands))
 unfolding does_all excps
 expects_at task u [] slots within = sym (append-nil (at slots u))
@@ -69,7 +70,7 @@ expects_at task u (c ∷ others) slots within =
     let size : length next ≡ length slots = keep_by b c slots in
     expects_at task u others next (omega (arith, size, within)) ∙ one_by u b c slots (excps task u (map command_said others)) within
 
-pub expects_length : (task : ℕ) (commands : List Command) (slots : List (List SlotState)) →
+pub expects_length : (task : ℕ) (commands : List ScriptCommand) (slots : List (List SlotState)) →
     length (does_all expects task commands slots) ≡ length slots
 unfolding does_all
 expects_length task [] slots = refl

@@ -5,7 +5,7 @@ use Rattle.std.proofs.lemmas.Bool.{or_parts}
 use Rattle.unit_book.specs.declared.entry.Entry.{Entry}
 use Rattle.unit_book.specs.declared.entry.Entry.TheVariants.{Opened}
 use Rattle.unit_book.specs.Dcbs.{openings}
-use Rattle.excp_system.specs.declared.control.Control.{Control}
+use Rattle.unit_book.specs.declared.control.Control.{Control}
 use Rattle.excp_system.specs.Controls.{Begins, Controlled, Goes, Makes, MakesNone, Opens, control_of, is_quiet}
 use Rattle.job_script.specs.Said.{ActionSaid, CommandSaid, Said, close, excp, purge, purge_task, reset, wait}
 use Rattle.job_run.specs.Controls.{AsksNone, asked_controls, control_to}

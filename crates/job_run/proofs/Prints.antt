@@ -8,7 +8,7 @@ use Rattle.job_script.specs.Commands.{is_excp}
 use Rattle.job_script.specs.Views.{action_said, command_said, said}
 use Rattle.job_script.specs.declared.command.Action.{Action}
 use Rattle.job_script.specs.declared.command.Action.TheVariants.{Excp, Purge, PurgeTask, Close, Reset, Wait}
-use Rattle.job_script.specs.declared.command.Command.{Command}
+use Rattle.job_script.specs.declared.command.ScriptCommand.{ScriptCommand}
 use Rattle.job_script.specs.declared.script.Script.{Script}
 use Rattle.post_lines.specs.Lines.{count_text}
 use Rattle.job_script.specs.declared.fault.JobError.{JobError}
@@ -33,24 +33,24 @@ one_more false true x y xs ys is same = absurd (cc is)
 one_more false false x y xs ys is same = same
 
 -- the EXCPs are those of what the commands say
-count_said : (commands : List Command) → length (filter (λ c. is_excp c.action) commands) ≡ excp_count (map command_said commands)
+count_said : (commands : List ScriptCommand) → length (filter (λ c. is_excp c.action) commands) ≡ excp_count (map command_said commands)
 count_said [] = refl
 count_said (c ∷ others) =
     one_more (is_excp c.action) (issues (action_said c.action)) c (command_said c) (filter (λ x. is_excp x.action) others)
     (filter (λ x. issues x.action) (map command_said others)) (issues_said c.action) (count_said others)
 
 -- the text of a run whose tasks left these lines
-texts : (script : Script) (books : List (Book AnyDevice)) (text : List ℕ) (commands : List Command) →
+texts : (script : Script) (books : List (Book AnyDevice)) (text : List ℕ) (commands : List ScriptCommand) →
     text ≡ script_text (said script) books → commands ≡ script.commands.items →
     text ++ count_text (length (filter (λ c. is_excp c.action) commands)) ≡ posts_text (said script) books
 texts script books text commands lines all =
     ap (λ (l : List ℕ). l ++ count_text (length (filter (λ c. is_excp c.action) commands))) lines
     ∙ ap (λ (k : ℕ). script_text (said script) books ++ count_text k)
-    (ap (λ (l : List Command). length (filter (λ c. is_excp c.action) l)) all ∙ count_said script.commands.items)
+    (ap (λ (l : List ScriptCommand). length (filter (λ c. is_excp c.action) l)) all ∙ count_said script.commands.items)
 
 -- a first part of the text that is written, if a write fails
 pub prints_part : (n : ℕ) (old new before after : Option (List ℕ)) (script : Script) (books : List (Book AnyDevice)) (text : List ℕ)
-    (commands : List Command) → IsRunOf n old new (said script) books → text ≡ script_text (said script) books →
+    (commands : List ScriptCommand) → IsRunOf n old new (said script) books → text ≡ script_text (said script) books →
     commands ≡ script.commands.items →
     AppendsPart before after (text ++ count_text (length (filter (λ c. is_excp c.action) commands))) → WritesPart n old new before after
 prints_part n old new before after script books text commands run lines all written = record {
@@ -80,7 +80,7 @@ ends_writing (Err fault) n old new before after is part = subst (EndsWriting n o
 
 -- THE TEXT that is written
 pub prints : (n : ℕ) (old new before after : Option (List ℕ)) (script : Script) (books : List (Book AnyDevice)) (text : List ℕ)
-    (commands : List Command) → IsRunOf n old new (said script) books → text ≡ script_text (said script) books →
+    (commands : List ScriptCommand) → IsRunOf n old new (said script) books → text ≡ script_text (said script) books →
     commands ≡ script.commands.items →
     Appends before after (text ++ count_text (length (filter (λ c. is_excp c.action) commands))) → PrintsPosts n old new before after
 prints n old new before after script books text commands run lines all written = record {

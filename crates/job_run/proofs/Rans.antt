@@ -17,12 +17,12 @@ use Rattle.excp_system.proofs.Places.{index_replicate}
 use Rattle.excp_system.specs.Controls.{asked_of}
 use Rattle.signed_list.specs.Signed.{signed_by}
 use Rattle.excp_system.specs.Opening.{AreBooks, fresh_task}
-use Rattle.excp_system.specs.declared.control.Control.{Control}
+use Rattle.unit_book.specs.declared.control.Control.{Control}
 use Rattle.excp_system.specs.States.{TaskState, awaited_count, sent_by}
 use Rattle.post_ledger.proofs.Pairs.{all_at_places, all_get, get_map, get_there}
 use Rattle.post_ledger.specs.Report.{AreIdle, AreLegal, AreOfTasks, IsFor, ReportState}
 use Rattle.system_threads.specs.Running.{Accounts}
-use Rattle.job_script.specs.declared.command.Command.{Command}
+use Rattle.job_script.specs.declared.command.ScriptCommand.{ScriptCommand}
 use Rattle.job_script.specs.Views.{said, unit_said}
 use Rattle.job_script.specs.declared.script.Script.{Script}
 use Rattle.job_run.specs.declared.task_error.TaskError.{TaskError}
@@ -43,7 +43,8 @@ abbrev pub own_of : {A E : Type 0} → A → Result A E
 own_of x = Ok x
 
 -- a task that did all has sent what its commands send, and asked what they ask
-did_all : {L : Type 0} (commands : List Command) (old new : TaskState) (o : Result L TaskError) → DoesScript commands old new o → IsDone o →
+did_all : {L : Type 0} (commands : List ScriptCommand) (old new : TaskState) (o : Result L TaskError) → DoesScript commands old new o →
+    IsDone o →
     (new.sent ≡ sends_all old.number commands old.sent) × (new.asked ≡ asks_all old.number commands old.asked)
 did_all commands old new (Ok x) does done = (
   does.0.sent ∙ deeds-sent old.number commands (no_deeds old),

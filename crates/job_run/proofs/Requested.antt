@@ -9,7 +9,7 @@ use Rattle.excp_system.proofs.Places.{index_replicate}
 use Rattle.request_piece.specs.declared.piece.Piece.{Piece}
 use Rattle.job_script.specs.declared.command.Action.{Action}
 use Rattle.job_script.specs.declared.command.Action.TheVariants.{Excp, Purge, PurgeTask, Close, Reset, Wait}
-use Rattle.job_script.specs.declared.command.Command.{Command}
+use Rattle.job_script.specs.declared.command.ScriptCommand.{ScriptCommand}
 use Rattle.job_script.specs.declared.command.Excp.{Excp as OneExcp}
 use Rattle.job_script.specs.Said.{ExcpSaid}
 use Rattle.job_script.specs.Views.{action_said, command_said, excp_said}
@@ -77,13 +77,14 @@ sends_keep task (Close dcb) sent = refl
 sends_keep task (Reset dcb) sent = refl
 sends_keep task Wait sent = refl
 
-one_by : (task unit : ℕ) (b : Bool) (c : Command) (sent : List (List Piece)) (rest : List ExcpSaid) → unit < length sent →
+one_by : (task unit : ℕ) (b : Bool) (c : ScriptCommand) (sent : List (List Piece)) (rest : List ExcpSaid) → unit < length sent →
     grown task (at (if b then sends task c.action sent else sent) unit) rest
     ≡ grown task (at sent unit) ((if b then excp_to unit (action_said c.action) else []) ++ rest)
 one_by task unit true c sent rest within = sends_to task unit c.action sent rest within
 one_by task unit false c sent rest within = refl
 
-keep_by : (task : ℕ) (b : Bool) (c : Command) (sent : List (List Piece)) → length (if b then sends task c.action sent else sent) ≡ length sent
+keep_by : (task : ℕ) (b : Bool) (c : ScriptCommand) (sent : List (List Piece)) →
+    length (if b then sends task c.action sent else sent) ≡ length sent
 keep_by task true c sent = sends_keep task c.action sent
 keep_by task false c sent = refl
 
@@ -92,7 +93,7 @@ unfolding requests_from
 length_requests task k [] = refl
 length_requests task k (e ∷ es) = ap suc (length_requests task (k + 1) es)
 
-sends_length : (task : ℕ) (commands : List Command) (sent : List (List Piece)) → length (sends_all task commands sent) ≡ length sent
+sends_length : (task : ℕ) (commands : List ScriptCommand) (sent : List (List Piece)) → length (sends_all task commands sent) ≡ length sent
 unfolding does_all
 sends_length task [] sent = refl
 sends_length task (c ∷ others) sent =
@@ -105,7 +106,7 @@ inside (x ∷ xs) zero some = omega arith
 inside (x ∷ xs) (suc k) some = let less = inside xs k some in omega (arith, less)
 
 -- WHAT A TASK SENDS to a unit: the requests of its EXCPs to the unit, behind what it had sent
-pub sends_requests : (task unit : ℕ) (commands : List Command) (sent : List (List Piece)) → unit < length sent →
+pub sends_requests : (task unit : ℕ) (commands : List ScriptCommand) (sent : List (List Piece)) → unit < length sent →
     at (sends_all task commands sent) unit ≡ grown task (at sent unit) (excps task unit (map command_said commands))
 unfolding does_all excps
 sends_requests task unit [] sent within = sym (grown_none task (at sent unit))
@@ -117,7 +118,7 @@ sends_requests task unit (c ∷ others) sent within =
     ∙ one_by task unit b c sent (excps task unit (map command_said others)) within
 
 -- a task that had sent nothing has sent as many requests to a unit as it has EXCPs there
-pub sends_count : (task units unit : ℕ) (commands : List Command) →
+pub sends_count : (task units unit : ℕ) (commands : List ScriptCommand) →
     1 ≤ length (at (sends_all task commands (replicate units [])) unit) →
     length (at (sends_all task commands (replicate units [])) unit) ≡ length (excps task unit (map command_said commands))
 sends_count task units unit commands some =

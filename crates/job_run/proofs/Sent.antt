@@ -3,12 +3,12 @@ use Rattle.std.proofs.Common.{◌≡◌, ◌≤◌, ◌==◌, ℕ, Bool, true, f
 use Rattle.std.proofs.Common.{refl, sym, subst, ap, ◌∙◌, arith, append-nil, drop}
 use Rattle.std.specs.Result.{IsErrAnd}
 use Rattle.excp_system.specs.States.{TaskState, awaited_count}
-use Rattle.excp_system.specs.declared.control.Control.{Control}
+use Rattle.unit_book.specs.declared.control.Control.{Control}
 use Rattle.request_piece.specs.declared.piece.Piece.{Piece}
 use Rattle.request_piece.specs.PostedState.{PostedState}
 use Rattle.job_script.specs.declared.command.Action.{Action}
 use Rattle.job_script.specs.declared.command.Action.TheVariants.{Excp, Purge, PurgeTask, Close, Reset, Wait}
-use Rattle.job_script.specs.declared.command.Command.{Command}
+use Rattle.job_script.specs.declared.command.ScriptCommand.{ScriptCommand}
 use Rattle.job_script.specs.Tasks.{places_of}
 use Rattle.job_run.specs.declared.task_error.TaskError.{TaskError}
 use Rattle.job_run.specs.declared.task_error.TaskError.TheVariants as errors
@@ -19,10 +19,10 @@ use Rattle.job_run.specs.declared.command_fault.CommandFault.{CommandFault}
 use Rattle.job_run.proofs.Walk.{IsNext, Reached, begins, ends, goes_on}
 
 -- what the commands of a task send, and what they ask
-abbrev pub sends_all : ℕ → List Command → List (List Piece) → List (List Piece)
+abbrev pub sends_all : ℕ → List ScriptCommand → List (List Piece) → List (List Piece)
 sends_all task commands sent = does_all (sends task) task commands sent
 
-abbrev pub asks_all : ℕ → List Command → List (List Control) → List (List Control)
+abbrev pub asks_all : ℕ → List ScriptCommand → List (List Control) → List (List Control)
 asks_all task commands asked = does_all asks_of task commands asked
 
 -- a command of the task, or of another
@@ -36,14 +36,14 @@ asked-by : (own : Bool) (task : ℕ) (a : Action) (d : Deeds) →
 asked-by true task a d = refl
 asked-by false task a d = refl
 
-pub deeds-sent : (task : ℕ) (commands : List Command) (d : Deeds) →
+pub deeds-sent : (task : ℕ) (commands : List ScriptCommand) (d : Deeds) →
     (does_all (adds_deeds task) task commands d).sent ≡ sends_all task commands d.sent
 unfolding does_all
 deeds-sent task [] d = refl
 deeds-sent task (c ∷ others) d = deeds-sent task others (if c.task == task then adds_deeds task c.action d else d)
     ∙ ap (sends_all task others) (sent-by (c.task == task) task c.action d)
 
-pub deeds-asked : (task : ℕ) (commands : List Command) (d : Deeds) →
+pub deeds-asked : (task : ℕ) (commands : List ScriptCommand) (d : Deeds) →
     (does_all (adds_deeds task) task commands d).asked ≡ asks_all task commands d.asked
 unfolding does_all
 deeds-asked task [] d = refl
@@ -51,14 +51,14 @@ deeds-asked task (c ∷ others) d = deeds-asked task others (if c.task == task t
     ∙ ap (asks_all task others) (asked-by (c.task == task) task c.action d)
 
 -- THE COMMANDS BEFORE these places of the task are done
-pub record Done (commands : List Command) (old : TaskState) (places : List ℕ) (now : TaskState) : Type 0 where
+pub record Done (commands : List ScriptCommand) (old : TaskState) (places : List ℕ) (now : TaskState) : Type 0 where
   pub all : Deeds
   pub reached : Reached (adds_deeds old.number) old.number commands (no_deeds old) places all
   pub sent : now.sent ≡ all.sent
   pub asked : now.asked ≡ all.asked
   pub collected : all.collected ≤ length now.got
 
-pub done-none : (commands : List Command) (s : TaskState) → Done commands s (places_of s.number commands) s
+pub done-none : (commands : List ScriptCommand) (s : TaskState) → Done commands s (places_of s.number commands) s
 done-none commands s = record {
   all = no_deeds s;
   reached = begins (adds_deeds s.number) s.number commands (no_deeds s);
@@ -78,7 +78,8 @@ collects-more (Reset dcb) sent count now new before grows waited = omega (arith,
 collects-more Wait sent count now new before grows waited = waited
 
 -- THE COMMAND at the first of these places comes next, in a state that is reached
-module _ (commands : List Command) (old now new : TaskState) (command : Command) (here places : List ℕ) (d : Done commands old here now)
+module _ (commands : List ScriptCommand) (old now new : TaskState) (command : ScriptCommand) (here places : List ℕ)
+    (d : Done commands old here now)
     (n : IsNext (adds_deeds old.number) old.number commands (no_deeds old) command places d.all) (grows : length now.got ≤ length new.got) where
   -- it is done
   pub done-more : new.sent ≡ sends old.number command.action now.sent → new.asked ≡ asks_of command.action now.asked →
@@ -112,7 +113,7 @@ module _ (commands : List Command) (old now new : TaskState) (command : Command)
   }
 
 -- all commands are done
-pub done-all : (commands : List Command) (old now : TaskState) (places : List ℕ) (i number : ℕ) → places ≡ places_of number commands →
+pub done-all : (commands : List ScriptCommand) (old now : TaskState) (places : List ℕ) (i number : ℕ) → places ≡ places_of number commands →
     number ≡ old.number → length places ≤ i → Done commands old (drop i (places_of old.number commands)) now → HasDone commands [] old now
 done-all commands old now places i number value same past d =
     let all = ends (adds_deeds old.number) old.number number commands (no_deeds old) d.all places i value same past d.reached in
@@ -124,12 +125,12 @@ done-all commands old now places i number value same past d =
 
 -- ---- the end of a task
 
-next-none : (task : ℕ) (commands : List Command) (asked : List (List Control)) → AsksNext task commands asked asked
+next-none : (task : ℕ) (commands : List ScriptCommand) (asked : List (List Control)) → AsksNext task commands asked asked
 next-none task [] asked = refl
 next-none task (c ∷ others) asked = inl refl
 
 -- a task that does no command
-pub does-none : (commands : List Command) (s : TaskState) → DoesFirst commands s s
+pub does-none : (commands : List ScriptCommand) (s : TaskState) → DoesFirst commands s s
 unfolding does_all
 does-none commands s = record {
   before = [];
@@ -139,7 +140,8 @@ does-none commands s = record {
 }
 
 -- and one that collects more, after its commands
-still : (commands next : List Command) (old mid new : TaskState) → HasDone commands next old mid → new.sent ≡ mid.sent → new.asked ≡ mid.asked →
+still : (commands next : List ScriptCommand) (old mid new : TaskState) → HasDone commands next old mid → new.sent ≡ mid.sent →
+    new.asked ≡ mid.asked →
     length mid.got ≤ length new.got → HasDone commands next old new
 still commands next old mid new d sent asked grows = record {
   sent = sent ∙ d.sent;
@@ -147,7 +149,8 @@ still commands next old mid new d sent asked grows = record {
   collected = omega (arith, d.collected, grows);
 }
 
-still-stops : (commands : List Command) (old mid new : TaskState) (fault : TaskError) → StopsAt commands old mid fault → new.sent ≡ mid.sent →
+still-stops : (commands : List ScriptCommand) (old mid new : TaskState) (fault : TaskError) → StopsAt commands old mid fault →
+    new.sent ≡ mid.sent →
     new.asked ≡ mid.asked → length mid.got ≤ length new.got → StopsAt commands old new fault
 still-stops commands old mid new fault s sent asked grows = record {
   before = s.before;
@@ -161,15 +164,17 @@ still-stops commands old mid new fault s sent asked grows = record {
   named = s.named;
 }
 
-first-of : (commands : List Command) (old new : TaskState) (fault : TaskError) → StopsAt commands old new fault → DoesFirst commands old new
+first-of : (commands : List ScriptCommand) (old new : TaskState) (fault : TaskError) → StopsAt commands old new fault →
+    DoesFirst commands old new
 first-of commands old new fault s = record { before = s.before; others = s.command ∷ s.others; split = s.split; done = s.done }
 
-early-by : (fault : TaskError) (commands : List Command) (old new : TaskState) → StopsAt commands old new fault → EndsEarly commands old new fault
+early-by : (fault : TaskError) (commands : List ScriptCommand) (old new : TaskState) → StopsAt commands old new fault →
+    EndsEarly commands old new fault
 early-by (errors.Line _ _) commands old new s = s
 early-by errors.NoMemory commands old new s = first-of commands old new errors.NoMemory s
 
 -- a task that has done its commands, or stopped at one of them, and then collects more
-module _ {A : Type 0} (commands : List Command) (old mid new : TaskState) where
+module _ {A : Type 0} (commands : List ScriptCommand) (old mid new : TaskState) where
   -- memory runs out there
   pub first-by : (r : Result A TaskError) → OnOk r (HasDone commands [] old mid) → IfErr r (StopsAt commands old mid) → new.sent ≡ mid.sent →
       new.asked ≡ mid.asked → length mid.got ≤ length new.got → DoesFirst commands old new
@@ -193,13 +198,13 @@ module _ {A : Type 0} (commands : List Command) (old mid new : TaskState) where
   stops-still (Err e) stopped sent asked grows = early-by e commands old new (still-stops commands old mid new e stopped sent asked grows)
 
 -- a task that runs out of memory has done its first commands
-pub ends_full : {A : Type 0} (r : Result A TaskError) (commands : List Command) (old new : TaskState) →
+pub ends_full : {A : Type 0} (r : Result A TaskError) (commands : List ScriptCommand) (old new : TaskState) →
     IsErrAnd r (λ e. e ≡ errors.NoMemory) → DoesFirst commands old new → IfErr r (EndsEarly commands old new)
 ends_full (Ok x) commands old new full first = tt
 ends_full (Err e) commands old new full first = rw full first
 
 -- a task does its script, by what it has done at its end
-pub does_script : {L : Type 0} (r : Result L TaskError) (commands : List Command) (old new : TaskState) →
+pub does_script : {L : Type 0} (r : Result L TaskError) (commands : List ScriptCommand) (old new : TaskState) →
     OnOk r (HasDone commands [] old new) → OnOk r (awaited_count new ≡ 0) → IfErr r (EndsEarly commands old new) →
     DoesScript commands old new r
 does_script (Ok x) commands old new done awaits early = (done, awaits)

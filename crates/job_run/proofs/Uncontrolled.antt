@@ -11,7 +11,7 @@ use Rattle.unit_book.specs.Legal.{Legal}
 use Rattle.unit_book.specs.Trace.{arrivals, is_opening}
 use Rattle.serial_order.specs.Laws.{IsUncontrolled, is_controlling, opens_before}
 use Rattle.signed_list.specs.Signed.{items_of, signed_by}
-use Rattle.excp_system.specs.declared.control.Control.{Control}
+use Rattle.unit_book.specs.declared.control.Control.{Control}
 use Rattle.excp_system.specs.Controls.{Begins, Controlled, Goes, Makes, MakesNone, Opens, is_quiet}
 
 same_number : (n : ℕ) → (n == n) ≡ true

@@ -5,34 +5,35 @@ use Rattle.std.proofs.lemmas.List.{drop_all}
 use Rattle.std.proofs.Math.Seq.{get_or-append_seam}
 use Rattle.std.proofs.lemmas.Bool.{eq-eqb, eqb-true}
 use Rattle.job_script.specs.declared.command.Action.{Action}
-use Rattle.job_script.specs.declared.command.Command.{Command}
+use Rattle.job_script.specs.declared.command.ScriptCommand.{ScriptCommand}
 use Rattle.job_script.specs.Tasks.{places_from, places_of}
 use Rattle.job_run.specs.Sending.{does_all}
 
 -- the commands before are done, and these places of the task are left
-pub record Reached {S : Type 0} (does : Action → S → S) (task : ℕ) (commands : List Command) (old : S) (places : List ℕ) (now : S) :
+pub record Reached {S : Type 0} (does : Action → S → S) (task : ℕ) (commands : List ScriptCommand) (old : S) (places : List ℕ) (now : S) :
     Type 0 where
-  pub before : List Command
-  pub others : List Command
+  pub before : List ScriptCommand
+  pub others : List ScriptCommand
   pub split : commands ≡ before ++ others
   pub left : places ≡ places_from task (length before) others
   pub now_is : now ≡ does_all does task before old
 
 -- the command at the first of these places is next
-pub record IsNext {S : Type 0} (does : Action → S → S) (task : ℕ) (commands : List Command) (old : S) (command : Command) (places : List ℕ)
-    (now : S) : Type 0 where
-  pub before : List Command
-  pub others : List Command
+pub record IsNext {S : Type 0} (does : Action → S → S) (task : ℕ) (commands : List ScriptCommand) (old : S) (command : ScriptCommand)
+    (places : List ℕ) (now : S) : Type 0 where
+  pub before : List ScriptCommand
+  pub others : List ScriptCommand
   pub split : commands ≡ before ++ command ∷ others
   pub own : command.task ≡ task
   pub left : places ≡ places_from task (length before + 1) others
   pub now_is : now ≡ does_all does task before old
 
 -- the first command of the task among some, of which the first has the place `at`
-record First {S : Type 0} (does : Action → S → S) (task at : ℕ) (cs : List Command) (place : ℕ) (places : List ℕ) (now : S) : Type 0 where
-  before : List Command
-  command : Command
-  others : List Command
+record First {S : Type 0} (does : Action → S → S) (task at : ℕ) (cs : List ScriptCommand) (place : ℕ) (places : List ℕ)
+    (now : S) : Type 0 where
+  before : List ScriptCommand
+  command : ScriptCommand
+  others : List ScriptCommand
   split : cs ≡ before ++ command ∷ others
   place_is : place ≡ at + length before
   own : command.task ≡ task
@@ -41,13 +42,14 @@ record First {S : Type 0} (does : Action → S → S) (task at : ℕ) (cs : List
 
 module _ {S : Type 0} (does : Action → S → S) (task : ℕ) where
   -- some commands after others
-  does_all-append : (xs ys : List Command) (now : S) → does_all does task (xs ++ ys) now ≡ does_all does task ys (does_all does task xs now)
+  does_all-append : (xs ys : List ScriptCommand) (now : S) →
+      does_all does task (xs ++ ys) now ≡ does_all does task ys (does_all does task xs now)
   unfolding does_all
   does_all-append [] ys now = refl
   does_all-append (x ∷ xs) ys now = does_all-append xs ys (cond (x.task == task) (does x.action now) now)
 
   -- a command of the task
-  does_all-own : (c : Command) (now : S) → c.task ≡ task → does_all does task (c ∷ []) now ≡ does c.action now
+  does_all-own : (c : ScriptCommand) (now : S) → c.task ≡ task → does_all does task (c ∷ []) now ≡ does c.action now
   unfolding does_all
   does_all-own c now own = rw (eq-eqb c.task task own) refl
 
@@ -57,14 +59,15 @@ module _ {S : Type 0} (does : Action → S → S) (task : ℕ) where
   idle-step true at rest after own now e h = absurd (cc)
   idle-step false at rest after own now e h = h e
 
-  idle : (at : ℕ) (cs : List Command) (now : S) → places_from task at cs ≡ [] → does_all does task cs now ≡ now
+  idle : (at : ℕ) (cs : List ScriptCommand) (now : S) → places_from task at cs ≡ [] → does_all does task cs now ≡ now
   unfolding does_all places_from
   idle at [] now e = refl
   idle at (c ∷ cs) now e =
       idle-step (c.task == task) at (places_from task (at + 1) cs) (does_all does task cs) (does c.action now) now e
       (λ none. idle (at + 1) cs now none)
 
-  first-step : (at place : ℕ) (c : Command) (cs : List Command) (places : List ℕ) (now : S) (is : Bool) → (c.task == task) ≡ is →
+  first-step : (at place : ℕ) (c : ScriptCommand) (cs : List ScriptCommand) (places : List ℕ) (now : S) (is : Bool) →
+      (c.task == task) ≡ is →
       cond is (at ∷ places_from task (at + 1) cs) (places_from task (at + 1) cs) ≡ place ∷ places →
       (places_from task (at + 1) cs ≡ place ∷ places → First does task (at + 1) cs place places now) →
       First does task at (c ∷ cs) place places now
@@ -95,18 +98,18 @@ module _ {S : Type 0} (does : Action → S → S) (task : ℕ) where
         left = n.left;
       }
 
-  first : (at place : ℕ) (cs : List Command) (places : List ℕ) (now : S) → places_from task at cs ≡ place ∷ places →
+  first : (at place : ℕ) (cs : List ScriptCommand) (places : List ℕ) (now : S) → places_from task at cs ≡ place ∷ places →
       First does task at cs place places now
   unfolding places_from
   first at place [] places now e = absurd (cc)
   first at place (c ∷ cs) places now e =
       first-step at place c cs places now (c.task == task) refl e (λ rest. first (at + 1) place cs places now rest)
 
-  pub begins : (commands : List Command) (now : S) → Reached does task commands now (places_of task commands) now
+  pub begins : (commands : List ScriptCommand) (now : S) → Reached does task commands now (places_of task commands) now
   unfolding does_all
   begins commands now = record { before = []; others = commands; split = refl; left = refl; now_is = refl }
 
-  next : (commands : List Command) (old : S) (place : ℕ) (places : List ℕ) (now : S) (command : Command) →
+  next : (commands : List ScriptCommand) (old : S) (place : ℕ) (places : List ℕ) (now : S) (command : ScriptCommand) →
       Reached does task commands old (place ∷ places) now → command ≡ get_or commands place command →
       IsNext does task commands old command places now
   next commands old place places now command r at =
@@ -115,7 +118,7 @@ module _ {S : Type 0} (does : Action → S → S) (task : ℕ) where
       let whole : commands ≡ before ++ n.command ∷ n.others = r.split ∙ ap (λ l. r.before ++ l) n.split
       ∙ sym (append_assoc r.before n.before (n.command ∷ n.others)) in
       let place_is : place ≡ length before = n.place_is ∙ sym (length-append r.before n.before) in
-      let same : command ≡ n.command = at ∙ ap (λ (l : List Command). get_or l place command) whole
+      let same : command ≡ n.command = at ∙ ap (λ (l : List ScriptCommand). get_or l place command) whole
       ∙ ap (λ (k : ℕ). get_or (before ++ n.command ∷ n.others) k command) place_is ∙ get_or-append_seam before n.command n.others command in
       record {
         before = before;
@@ -127,7 +130,7 @@ module _ {S : Type 0} (does : Action → S → S) (task : ℕ) where
       }
 
   -- the command at the place with this number among those of the task
-  pub at_place : (number : ℕ) (commands : List Command) (old now : S) (places : List ℕ) (i : ℕ) (command : Command) →
+  pub at_place : (number : ℕ) (commands : List ScriptCommand) (old now : S) (places : List ℕ) (i : ℕ) (command : ScriptCommand) →
       places ≡ places_of number commands → number ≡ task → i < length places →
       Reached does task commands old (drop i (places_of task commands)) now → command ≡ get_or commands (get_or places i 0) command →
       IsNext does task commands old command (drop (i + 1) (places_of task commands)) now
@@ -143,7 +146,7 @@ module _ {S : Type 0} (does : Action → S → S) (task : ℕ) where
       (subst (λ (l : List ℕ). Reached does task commands old l now) step reached) here
 
   -- the command is done
-  pub goes_on : (commands : List Command) (old : S) (command : Command) (places : List ℕ) (now new : S) →
+  pub goes_on : (commands : List ScriptCommand) (old : S) (command : ScriptCommand) (places : List ℕ) (now new : S) →
       IsNext does task commands old command places now → new ≡ does command.action now → Reached does task commands old places new
   goes_on commands old command places now new n done_is =
       let done = n.before ++ command ∷ [] in
@@ -157,12 +160,12 @@ module _ {S : Type 0} (does : Action → S → S) (task : ℕ) where
       }
 
   -- no place is left
-  none_left : (commands : List Command) (old now : S) → Reached does task commands old [] now → now ≡ does_all does task commands old
+  none_left : (commands : List ScriptCommand) (old now : S) → Reached does task commands old [] now → now ≡ does_all does task commands old
   none_left commands old now r =
       rw r.split (sym (does_all-append r.before r.others old ∙ idle (length r.before) r.others (does_all does task r.before old)
       (sym r.left) ∙ sym r.now_is))
 
-  pub ends : (number : ℕ) (commands : List Command) (old now : S) (places : List ℕ) (i : ℕ) → places ≡ places_of number commands →
+  pub ends : (number : ℕ) (commands : List ScriptCommand) (old now : S) (places : List ℕ) (i : ℕ) → places ≡ places_of number commands →
       number ≡ task → length places ≤ i → Reached does task commands old (drop i (places_of task commands)) now →
       now ≡ does_all does task commands old
   ends number commands old now places i value same past reached =

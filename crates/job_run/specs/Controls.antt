@@ -5,8 +5,8 @@ use Rattle.any_device.specs.declared.device.AnyDevice.{AnyDevice}
 use Rattle.unit_book.specs.Book.{Book}
 use Rattle.signed_list.specs.Signed.{items_of, signed_by}
 use Rattle.excp_system.specs.Controls.{Controlled}
-use Rattle.excp_system.specs.declared.control.Control.{Control}
-use Rattle.excp_system.specs.declared.control.Control.TheVariants.{Purge, Close, Reset}
+use Rattle.unit_book.specs.declared.control.Control.{Control}
+use Rattle.unit_book.specs.declared.control.Control.TheVariants.{Purge, Close, Reset}
 use Rattle.job_script.specs.Said.{ActionSaid, CommandSaid, Said, close, excp, purge, purge_task, reset, wait}
 
 -- the control that an action asks of a unit, if it asks one: a purge of a task is asked of every unit

@@ -1,4 +1,4 @@
--- HOW LARGE ROWS AND BOOKS ARE: there is a place for each request that may be under way (profile).
+-- HOW LARGE ROWS AND BOOKS ARE: large enough for each request that may be under way (profile).
 use Rattle.std.specs.Prelude.{◌≡◌, ◌*◌, ℕ, List, max, min, vec_len}
 use Rattle.std.specs.List.{All}
 use Rattle.unit_book.specs.Book.{Book}
@@ -10,15 +10,16 @@ use Rattle.job_script.specs.declared.script.Script.{Script}
 abbrev pub most_under_way : ℕ
 most_under_way = 256
 
--- the room for a number of requests, of which this many may be under way: 1 at least
+-- the capacity for a number of requests, of which this many may be in progress: 1 at least
 abbrev pub room_for : ℕ → ℕ → ℕ
 room_for under_way requests = min (max requests 1) under_way
 
--- the room for the requests that the script issues to one unit, and for those of one task, where these are the most
+-- the capacity for the requests to one unit: the most that the script issues to any unit
 abbrev pub room_of_a_unit : Script → ℕ
 room_of_a_unit script =
     room_for (most_under_way * script.set_up.tasks) (most (request_count_to script.commands.items) (vec_len script.set_up.units))
 
+-- the capacity for the requests of one task: the most that the script issues by any task
 abbrev pub room_of_a_task : Script → ℕ
 room_of_a_task script = room_for most_under_way (most (request_count_of script.commands.items) script.set_up.tasks)
 

@@ -9,11 +9,11 @@ use Rattle.request_piece.specs.declared.piece.Piece.{Piece}
 use Rattle.request_piece.specs.declared.scope.Scope.TheVariants as scopes
 use Rattle.excp_system.specs.Controls.{asked_of, asks}
 use Rattle.excp_system.specs.States.{TaskState, awaited_count}
-use Rattle.excp_system.specs.declared.control.Control.{Control}
-use Rattle.excp_system.specs.declared.control.Control.TheVariants as controls
+use Rattle.unit_book.specs.declared.control.Control.{Control}
+use Rattle.unit_book.specs.declared.control.Control.TheVariants as controls
 use Rattle.job_script.specs.declared.command.Action.{Action}
 use Rattle.job_script.specs.declared.command.Action.TheVariants.{Excp, Purge, PurgeTask, Close, Reset, Wait}
-use Rattle.job_script.specs.declared.command.Command.{Command}
+use Rattle.job_script.specs.declared.command.ScriptCommand.{ScriptCommand}
 use Rattle.job_script.specs.declared.command.Excp.{Excp as OneExcp}
 use Rattle.job_run.specs.declared.task_error.TaskError.{TaskError}
 use Rattle.job_run.specs.declared.task_error.TaskError.TheVariants as errors
@@ -54,7 +54,7 @@ asks_of (Reset dcb) asked = asks true dcb.unit (controls.Reset dcb.number) asked
 asks_of Wait asked = asked
 
 -- what the commands of a task make of something: its own alone, one after the other
-unfoldable pub does_all : {S : Type 0} → (Action → S → S) → ℕ → List Command → S → S
+unfoldable pub does_all : {S : Type 0} → (Action → S → S) → ℕ → List ScriptCommand → S → S
 does_all does task [] s = s
 does_all does task (c ∷ others) s = does_all does task others (if c.task == task then does c.action s else s)
 
@@ -87,7 +87,7 @@ AsksPart (Reset dcb) old new = new ≡ old
 AsksPart Wait old new = new ≡ old
 
 -- the first of these commands has asked nothing, or no more than a part if it is of the task
-abbrev pub AsksNext : ℕ → List Command → List (List Control) → List (List Control) → Type 0
+abbrev pub AsksNext : ℕ → List ScriptCommand → List (List Control) → List (List Control) → Type 0
 AsksNext task [] old new = new ≡ old
 AsksNext task (c ∷ others) old new = (new ≡ old) ⊎ ((c.task ≡ task) × AsksPart c.action old new)
 
@@ -106,6 +106,7 @@ collects (Close dcb) sent count = count
 collects (Reset dcb) sent count = count
 collects Wait sent count = sum_by length sent
 
+-- what a task has sent, asked and collected after an action
 abbrev pub adds_deeds : ℕ → Action → Deeds → Deeds
 adds_deeds task a d = record {
   sent = sends task a d.sent;
@@ -118,21 +119,21 @@ abbrev pub no_deeds : TaskState → Deeds
 no_deeds s = record { sent = s.sent; asked = s.asked; collected = 0 }
 
 -- by these commands of a script, its own alone
-abbrev pub deeds : List Command → TaskState → Deeds
+abbrev pub deeds : List ScriptCommand → TaskState → Deeds
 deeds commands s = does_all (adds_deeds s.number) s.number commands (no_deeds s)
 
 -- a task has done its commands among these, and no other but a part of its own that comes next: it sent and asked each unit what they
 -- say, in their order, and has collected at least as many posts as it had sent requests at its last wait
-pub record HasDone (commands next : List Command) (old new : TaskState) : Type 0 where
+pub record HasDone (commands next : List ScriptCommand) (old new : TaskState) : Type 0 where
   pub sent : new.sent ≡ (deeds commands old).sent
   pub asked : AsksNext old.number next (deeds commands old).asked new.asked
   pub collected : (deeds commands old).collected ≤ length new.got
 
 -- a task stops at one of its commands, which fails: it has done the commands before, and the fault names the command's line
-pub record StopsAt (commands : List Command) (old new : TaskState) (fault : TaskError) : Type 0 where
-  pub before : List Command
-  pub command : Command
-  pub others : List Command
+pub record StopsAt (commands : List ScriptCommand) (old new : TaskState) (fault : TaskError) : Type 0 where
+  pub before : List ScriptCommand
+  pub command : ScriptCommand
+  pub others : List ScriptCommand
   pub split : commands ≡ before ++ command ∷ others
   pub own : command.task ≡ old.number
   pub done : HasDone before (command ∷ others) old new
@@ -141,18 +142,18 @@ pub record StopsAt (commands : List Command) (old new : TaskState) (fault : Task
   pub named : fault ≡ fault_at cause command.line
 
 -- a task has done its first commands
-pub record DoesFirst (commands : List Command) (old new : TaskState) : Type 0 where
-  pub before : List Command
-  pub others : List Command
+pub record DoesFirst (commands : List ScriptCommand) (old new : TaskState) : Type 0 where
+  pub before : List ScriptCommand
+  pub others : List ScriptCommand
   pub split : commands ≡ before ++ others
   pub done : HasDone before others old new
 
 -- a task ends before its last command: it stops at one of its commands, or runs out of memory
-abbrev pub EndsEarly : List Command → TaskState → TaskState → TaskError → Type 0
+abbrev pub EndsEarly : List ScriptCommand → TaskState → TaskState → TaskError → Type 0
 EndsEarly commands old new (errors.Line line name) = StopsAt commands old new (errors.Line line name)
 EndsEarly commands old new errors.NoMemory = DoesFirst commands old new
 
 -- a task does its commands of a script to their end, and then collects at least as many posts as it sent requests; or it ends early
-abbrev pub DoesScript : {L : Type 0} → List Command → TaskState → TaskState → Result L TaskError → Type 0
+abbrev pub DoesScript : {L : Type 0} → List ScriptCommand → TaskState → TaskState → Result L TaskError → Type 0
 DoesScript commands old new (Ok lines) = HasDone commands [] old new × (awaited_count new ≡ 0)
 DoesScript commands old new (Err fault) = EndsEarly commands old new fault

@@ -16,15 +16,16 @@ use crate::task_error::TaskError;
 use crate::unit_calls::{control, purge_task};
 use any_device::AnyDevice;
 use crossbeam_utils::Backoff;
-use excp_system::{Control, Opened, System};
+use excp_system::{Opened, System};
 use fifo_row::Full;
 use job_mount::request;
-use job_script::{Action, Command, Excp, Script};
+use job_script::{Action, Excp, Script, ScriptCommand};
 use post_lines::Slots;
 use request_piece::{Posted, Request, Scope};
 use std::alloc::{AllocError, Global};
 use std::sync::Wait;
 use system_threads::{Alarm, Client};
+use unit_book::Control;
 
 /// The most requests that a task has under way, so that the storage of a run does not grow with all its requests
 /// (profile).
@@ -138,7 +139,7 @@ impl<'a, 'r, S: Opened<AnyDevice>> Job<'a, 'r, S> {
         client: &mut Client<'_, S>,
         slots: &mut Slots,
         notes: &mut N,
-        command: &Command,
+        command: &ScriptCommand,
     ) -> Result<(), CommandFault>
         requires units { NamesUnits S.rows.units command.now }
         requires request { CanBeDone command.now }

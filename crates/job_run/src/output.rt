@@ -9,7 +9,7 @@ ghost use Rattle.post_lines.specs.Lines.{count_text};
 ghost use Rattle.job_run.specs.Printing.{ended_slots, tasks_text};
 
 use crate::task_end::TaskEnd;
-use job_script::{Action, Command, JobError};
+use job_script::{Action, JobError, ScriptCommand};
 use post_lines::{write_count, write_task};
 use std::io;
 use std::io::Write;
@@ -19,7 +19,7 @@ use std::io::Write;
 ///
 /// Error: a failed write, after a first part of this text.
 pub fn write<W: Write, N: Drop>(
-    commands: &[Command],
+    commands: &[ScriptCommand],
     tasks: &[TaskEnd<N>],
     writer: &mut W,
 ) -> Result<(), JobError>
@@ -32,7 +32,7 @@ pub fn write<W: Write, N: Drop>(
 
 /// Writes the lines of all tasks, and the last one.
 fn write_posts<W: Write, N: Drop>(
-    commands: &[Command],
+    commands: &[ScriptCommand],
     tasks: &[TaskEnd<N>],
     out: &mut W,
 ) -> io::Result<()>
@@ -47,7 +47,7 @@ fn write_posts<W: Write, N: Drop>(
 }
 
 /// How many of these commands are EXCPs.
-fn excp_count(commands: &[Command]) -> usize
+fn excp_count(commands: &[ScriptCommand]) -> usize
     ensures { result ≡ length (filter (λ c. is_excp c.action) commands.now) }
 {
     let excps = commands

@@ -16,14 +16,14 @@ use job_script::{JobError, Script};
 use std::alloc::Global;
 use unit_book::UnitBook;
 
-/// The room of a row or a book for this many requests, of which `under_way` may be under way.
+/// The capacity of a row or a book for this many requests, of which `under_way` may be in progress.
 fn room_for(under_way: usize, requests: usize) -> usize
     ensures { result ≡ room_for under_way requests }
 {
     requests.max(1).min(under_way)
 }
 
-/// The rows and the books that a script is run on, each with a place for all its requests that may be under way. Units
+/// The rows and the books that a script is run on, each large enough for all its requests that may be under way. Units
 /// are given these devices, by their numbers.
 pub(crate) fn rows_and_books(
     alloc: Global,

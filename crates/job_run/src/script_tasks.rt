@@ -16,9 +16,9 @@ use std::marker::PhantomData;
 use std::sync::Wait;
 use system_threads::{Alarm, Client, TaskProgram};
 
-/// Each task does its commands of the script, up to its first fault, and waits until all its requests were posted. It
-/// leaves what that came to, with notes of the type `N`, or why it ended. A worker that runs out of memory outranks the
-/// fault of a line.
+/// Each task does its commands of the script, up to its first fault, and waits until all its requests were posted. Its outcome is
+/// its slots and its notes of the type `N`, or why it failed. If a worker runs out of memory, that error is reported first, before
+/// the fault of a line.
 #[derive(Drop)]
 pub struct ScriptTasks<'a, N> {
     script: &'a Script,

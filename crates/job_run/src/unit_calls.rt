@@ -6,12 +6,12 @@ ghost use Rattle.job_run.specs.Sending.{AsksSome, asks_each};
 
 use crate::notes::Notes;
 use any_device::AnyDevice;
-use excp_system::{Control, Opened, System};
+use excp_system::{Opened, System};
 use request_piece::Scope;
 use std::alloc::AllocError;
 use std::sync::Wait;
 use system_threads::Client;
-use unit_book::{DcbError, Mode};
+use unit_book::{Control, DcbError, Mode};
 
 /// Asks a control of a unit, and of no other. It counts as done if it makes no entry: a close or purge of an unknown DCB, and
 /// a reset of one that is not open.

@@ -3,8 +3,8 @@ use Rattle.std.proofs.Common.{◌≡◌, ◌<◌, ◌≤◌, ℕ, zero, suc, Lis
 use Rattle.std.proofs.Common.{Ok, Err, OnErr, Result}
 use Rattle.std.proofs.lemmas.List.{length-map, map-set}
 use Rattle.job_script.specs.declared.command.DcbName.{DcbName}
-use Rattle.job_script.specs.declared.refusal.Refusal.{Refusal}
-use Rattle.job_script.specs.declared.refusal.Refusal.TheVariants.{Fault, NoMemory}
+use Rattle.job_script.specs.declared.refusal.LineError.{LineError}
+use Rattle.job_script.specs.declared.refusal.LineError.TheVariants.{Fault, NoMemory}
 use Rattle.job_script.specs.declared.fault.FaultName.{FaultName}
 use Rattle.job_script.specs.declared.fault.FaultName.TheVariants as names
 use Rattle.job_script.specs.declared.set_up.UnitSetup.{UnitSetup}
@@ -47,7 +47,7 @@ unfolding change_unit
 unchanged change s units n e past = rw (e, unnumbered_map unit_said units n past) refl
 
 -- a call that changes one unit
-pub changes : (r : Result (Unit {0}) Refusal) (change : UnitSaid → Result UnitSaid FaultName) (s : SetUpSaid) (units : List UnitSetup)
+pub changes : (r : Result (Unit {0}) LineError) (change : UnitSaid → Result UnitSaid FaultName) (s : SetUpSaid) (units : List UnitSetup)
     (n : ℕ)
     (old new : UnitSetup) → s.units ≡ map unit_said units → n < length units → old ≡ get_or units n old
     → Leads r (unit_said new) (change (unit_said old)) → Leads r (record s { units = map unit_said (set units n new) })
@@ -65,7 +65,7 @@ said_again (x ∷ xs) zero old new within same = ap (λ said. said ∷ map unit_
 said_again (x ∷ xs) (suc n) old new within same = ap (λ others. unit_said x ∷ others) (said_again xs n old new (omega arith) same)
 
 -- a call that changes one unit, and keeps what it says after an error
-pub keeps : (r : Result (Unit {0}) Refusal) (s : SetUpSaid) (units : List UnitSetup) (n : ℕ) (old new : UnitSetup) →
+pub keeps : (r : Result (Unit {0}) LineError) (s : SetUpSaid) (units : List UnitSetup) (n : ℕ) (old new : UnitSetup) →
     s.units ≡ map unit_said units
     → n < length units → old ≡ get_or units n old → OnErr r (unit_said new ≡ unit_said old)
     → OnErr r (record s { units = map unit_said (set units n new) } ≡ s)

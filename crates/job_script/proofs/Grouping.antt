@@ -10,7 +10,7 @@ use Rattle.job_script.specs.Commands.{excp_is_to, is_excp}
 use Rattle.job_script.specs.declared.command.Action.{Action}
 use Rattle.job_script.specs.declared.command.Action.TheVariants as actions
 use Rattle.job_script.specs.declared.command.Excp.{Excp}
-use Rattle.job_script.specs.declared.command.Command.{Command}
+use Rattle.job_script.specs.declared.command.ScriptCommand.{ScriptCommand}
 use Rattle.job_script.specs.Tasks.{list_of, places_from, places_of}
 
 -- one more empty list changes no list
@@ -49,7 +49,7 @@ more : (is : Bool) (at : ℕ) (rest added : List ℕ) → cond is (at ∷ (rest 
 more true at rest added = refl
 more false at rest added = refl
 
-places_from-more : (task at p : ℕ) (cs : List Command) (c : Command) → p ≡ at + length cs
+places_from-more : (task at p : ℕ) (cs : List ScriptCommand) (c : ScriptCommand) → p ≡ at + length cs
     → places_from task at (cs ++ c ∷ []) ≡ places_from task at cs ++ cond (c.task == task) (p ∷ []) []
 unfolding places_from
 places_from-more task at p [] c e =
@@ -89,7 +89,8 @@ list_of-keep lists n list d within is k =
     list_of-set lists n k list within ∙ kept (n == k) list.items (list_of lists k) same
 
 -- one more command, whose place is added to the list of its task
-pub grouped-more : (lists new : List (Vec ℕ)) (commands : List Command) (c : Command) (n place : ℕ) → n ≡ c.task → place ≡ length commands
+pub grouped-more : (lists new : List (Vec ℕ)) (commands : List ScriptCommand) (c : ScriptCommand) (n place : ℕ) → n ≡ c.task →
+    place ≡ length commands
     → ((task : ℕ) → list_of lists task ≡ places_of task commands)
     → ((k : ℕ) → list_of new k ≡ list_of lists k ++ cond (n == k) (place ∷ []) [])
     → (task : ℕ) → list_of new task ≡ places_of task (commands ++ c ∷ [])
@@ -107,7 +108,7 @@ inside-step false at n rest k d all h =
     let one : get_or rest k d < at + 1 + n = all k h in
     omega (arith, one)
 
-pub places_from-inside : (task at : ℕ) (cs : List Command) (k d : ℕ) → k < length (places_from task at cs)
+pub places_from-inside : (task at : ℕ) (cs : List ScriptCommand) (k d : ℕ) → k < length (places_from task at cs)
     → get_or (places_from task at cs) k d < at + length cs
 unfolding places_from
 places_from-inside task at [] k d h = absurd (omega arith)
@@ -124,7 +125,7 @@ counted-more (x ∷ xs) (suc n) zero h = rw (eqb-suc-zero n) (omega arith)
 counted-more (x ∷ xs) (suc n) (suc k) h = rw (eqb-suc-suc n k) (counted-more xs n k (omega arith))
 
 -- one more command is counted, or not
-pub counts_one : (counts new : List ℕ) (test : ℕ → Command → Bool) (commands : List Command) (i n : ℕ) (item : Command) →
+pub counts_one : (counts new : List ℕ) (test : ℕ → ScriptCommand → Bool) (commands : List ScriptCommand) (i n : ℕ) (item : ScriptCommand) →
     i < length commands
     → item ≡ get_or commands i item → n < length counts →
     ((k : ℕ) → k < 64 → get_or counts k 0 ≡ length (filter (test k) (take i commands)))
@@ -135,7 +136,8 @@ counts_one counts new test commands i n item inside at within all is changed k h
     let here : test k (get_or commands i item) ≡ (n == k) = ap (test k) (sym at) ∙ is k in
     rw (changed, step, here, counted-more counts n k within, all k h) refl
 
-pub counts_none : (counts new : List ℕ) (test : ℕ → Command → Bool) (commands : List Command) (i : ℕ) (item : Command) → i < length commands
+pub counts_none : (counts new : List ℕ) (test : ℕ → ScriptCommand → Bool) (commands : List ScriptCommand) (i : ℕ) (item : ScriptCommand) →
+    i < length commands
     → item ≡ get_or commands i item → ((k : ℕ) → k < 64 → get_or counts k 0 ≡ length (filter (test k) (take i commands)))
     → ((k : ℕ) → test k item ≡ false) → new ≡ counts
     → (k : ℕ) → k < 64 → get_or new k 0 ≡ length (filter (test k) (take (i + 1) commands))
@@ -162,15 +164,15 @@ of_no_task (actions.Reset dcb) other = refl
 of_no_task actions.Wait other = refl
 
 -- what holds of the commands that are there and of one more
-pub pushed : (P : Command → Type 0) (cs : List Command) (c : Command) → ((x : Command) → Contains cs x → P x) → P c
-    → (x : Command) → Contains (cs ++ c ∷ []) x → P x
+pub pushed : (P : ScriptCommand → Type 0) (cs : List ScriptCommand) (c : ScriptCommand) → ((x : ScriptCommand) → Contains cs x → P x) → P c
+    → (x : ScriptCommand) → Contains (cs ++ c ∷ []) x → P x
 pushed P cs c all one x h = by_case (Contains-push_cases cs c x h) where
   by_case : Contains cs x ⊎ (c ≡ x) → P x
   by_case (inl there) = all x there
   by_case (inr same) = subst P same one
 
 -- no command
-pub no_command : (P : Command → Type 0) (x : Command) → Contains [] x → P x
+pub no_command : (P : ScriptCommand → Type 0) (x : ScriptCommand) → Contains [] x → P x
 no_command P x h =
     let few : h.0 < 0 = h.1 in
     absurd (omega (arith, few))

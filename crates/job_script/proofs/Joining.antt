@@ -4,14 +4,14 @@ use Rattle.script_words.specs.Forms.{Leaves, put_after, hex_bytes, joined}
 use Rattle.script_words.specs.declared.forms.FormError.{FormError}
 use Rattle.script_words.specs.declared.forms.FormError.TheVariants.{NotOfForm, OutOfMemory}
 use Rattle.script_words.proofs.Joining.{joined_stops}
-use Rattle.job_script.specs.declared.refusal.Refusal.{Refusal}
-use Rattle.job_script.specs.declared.refusal.Refusal.TheVariants.{Fault, NoMemory}
+use Rattle.job_script.specs.declared.refusal.LineError.{LineError}
+use Rattle.job_script.specs.declared.refusal.LineError.TheVariants.{Fault, NoMemory}
 use Rattle.job_script.specs.declared.fault.FaultName.{FaultName}
 use Rattle.job_script.specs.Forms.{formed}
 use Rattle.job_script.specs.Outcomes.{IsNoBytes, Returns}
 
 -- a word that gives no bytes
-pub joined_fails : (error : FormError) (refusal : Refusal) (front new word : List ℕ) (ws rest : List (List ℕ))
+pub joined_fails : (error : FormError) (refusal : LineError) (front new word : List ℕ) (ws rest : List (List ℕ))
     (whole : Option (List ℕ)) → ws ≡ word ∷ rest → Leaves (Err error) new (put_after front (hex_bytes word)) →
     put_after front (joined ws) ≡ whole
     → IsNoBytes error refusal → Returns (λ (bytes : List ℕ). bytes) (Err refusal) (formed whole)

@@ -63,21 +63,23 @@ change_unit n change s = do
   new ← change old
   Ok (record s { units = slice_set s.units n new })
 
--- a record lies on a disk, after the records that are there
+-- adds a record to a disk, after the records before it
 abbrev pub put_record : RecordSaid → MediumSaid → Result MediumSaid FaultName
 put_record r (disk geometry records) = Ok (disk geometry (records ++ r ∷ []))
 put_record r (tape size items) = Err names.Kind
 put_record r (printer lines pages) = Err names.Kind
 
+-- adds a record to the disk of a unit
 abbrev pub add_record : RecordSaid → UnitSaid → Result UnitSaid FaultName
 add_record r unit = put_record r unit.medium >>= λ medium. Ok (record unit { medium = medium })
 
--- an item lies on a tape, after the items that are there
+-- adds an item to a tape, after the items before it
 abbrev pub put_item : Item → MediumSaid → Result MediumSaid FaultName
 put_item i (disk geometry records) = Err names.Kind
 put_item i (tape size items) = Ok (tape size (items ++ i ∷ []))
 put_item i (printer lines pages) = Err names.Kind
 
+-- adds an item to the tape of a unit
 abbrev pub add_item : Item → UnitSaid → Result UnitSaid FaultName
 add_item i unit = put_item i unit.medium >>= λ medium. Ok (record unit { medium = medium })
 

@@ -6,7 +6,7 @@ use Rattle.job_script.specs.declared.command.DcbName.{DcbName}
 use Rattle.job_script.specs.declared.command.Excp.{Excp as OneExcp}
 use Rattle.job_script.specs.declared.command.Action.{Action}
 use Rattle.job_script.specs.declared.command.Action.TheVariants.{Excp, Purge, PurgeTask, Close, Reset, Wait}
-use Rattle.job_script.specs.declared.command.Command.{Command}
+use Rattle.job_script.specs.declared.command.ScriptCommand.{ScriptCommand}
 
 -- the DCB that a command names, if it names one
 abbrev pub named_dcb : Action → Option DcbName
@@ -18,7 +18,7 @@ named_dcb (Reset dcb) = Some dcb
 named_dcb Wait = None
 
 -- the DCB that it names, if it names one, is of a unit below the number
-abbrev pub NamesUnits : ℕ → Command → Type 0
+abbrev pub NamesUnits : ℕ → ScriptCommand → Type 0
 NamesUnits units c = ForSome (named_dcb c.action) (λ dcb. dcb.unit < units)
 
 -- the command is an EXCP
@@ -40,21 +40,22 @@ excp_is_to unit (Reset dcb) = false
 excp_is_to unit Wait = false
 
 -- it issues a request to the unit
-abbrev pub issues_to : ℕ → Command → Bool
+abbrev pub issues_to : ℕ → ScriptCommand → Bool
 issues_to unit c = excp_is_to unit c.action
 
 -- the task issues a request by it
-abbrev pub issues_of : ℕ → Command → Bool
+abbrev pub issues_of : ℕ → ScriptCommand → Bool
 issues_of task c = is_excp c.action && (c.task == task)
 
 -- how many requests they issue to the unit, and how many the task issues
-abbrev pub request_count_to : List Command → ℕ → ℕ
+abbrev pub request_count_to : List ScriptCommand → ℕ → ℕ
 request_count_to commands unit = length (filter (issues_to unit) commands)
 
-abbrev pub request_count_of : List Command → ℕ → ℕ
+-- how many requests a task issues
+abbrev pub request_count_of : List ScriptCommand → ℕ → ℕ
 request_count_of commands task = length (filter (issues_of task) commands)
 
--- the largest of the numbers at the places below a limit, and 0 if there is none
+-- the largest of the numbers at the indices below a limit, and 0 if there is none
 unfoldable pub most : (ℕ → ℕ) → ℕ → ℕ
 most numbers zero = 0
 most numbers (suc n) = max (most numbers n) (numbers n)

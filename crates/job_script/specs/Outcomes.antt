@@ -1,11 +1,11 @@
 -- WHAT A CALL RETURNS OR LEAVES, by the grammar. A call that runs out of memory may return nothing else.
 use Rattle.std.specs.Prelude.{◌≡◌, List, ℕ, Result, Ok, Err}
 use Rattle.script_words.specs.Text.{words}
-use Rattle.script_words.specs.declared.words.Words.{Words}
+use Rattle.script_words.specs.declared.words.LineWords.{LineWords}
 use Rattle.io_area.specs.Storage.{Storage}
 use Rattle.job_script.specs.Adding.{is_area}
-use Rattle.job_script.specs.declared.refusal.Refusal.{Refusal}
-use Rattle.job_script.specs.declared.refusal.Refusal.TheVariants.{Fault, NoMemory}
+use Rattle.job_script.specs.declared.refusal.LineError.{LineError}
+use Rattle.job_script.specs.declared.refusal.LineError.TheVariants.{Fault, NoMemory}
 use Rattle.job_script.specs.Grammar.{FaultAt}
 use Rattle.job_script.specs.declared.fault.JobError.{JobError}
 use Rattle.job_script.specs.declared.fault.JobError.TheVariants as faults
@@ -15,7 +15,7 @@ use Rattle.script_words.specs.declared.forms.FormError.{FormError}
 use Rattle.script_words.specs.declared.forms.FormError.TheVariants.{NotOfForm, OutOfMemory}
 
 -- the words of a line that was scanned
-abbrev pub words_in : Words → List (List ℕ)
+abbrev pub words_in : LineWords → List (List ℕ)
 words_in line = words line.line.now
 
 -- a call that takes no memory returned what was to be read
@@ -28,25 +28,25 @@ ReadsAs view (Ok x) read = read ≡ Ok (view x)
 ReadsAs view (Err fault) read = read ≡ Err fault
 
 -- a call returned a value that says what was to be read, out of memory apart
-abbrev pub Returns : {X Y : Type 0} → (X → Y) → Result X Refusal → Result Y FaultName → Type 0
+abbrev pub Returns : {X Y : Type 0} → (X → Y) → Result X LineError → Result Y FaultName → Type 0
 Returns view (Ok x) read = read ≡ Ok (view x)
 Returns view (Err (Fault fault)) read = read ≡ Err fault
 Returns view (Err NoMemory) read = Unit {0}
 
 -- a call left what was to be read, out of memory apart
-abbrev pub Leads : {X S : Type 0} → Result X Refusal → S → Result S FaultName → Type 0
+abbrev pub Leads : {X S : Type 0} → Result X LineError → S → Result S FaultName → Type 0
 Leads (Ok x) new read = read ≡ Ok new
 Leads (Err (Fault fault)) new read = read ≡ Err fault
 Leads (Err NoMemory) new read = Unit {0}
 
 -- why a word gives no bytes
-abbrev pub IsNoBytes : FormError → Refusal → Type 0
+abbrev pub IsNoBytes : FormError → LineError → Type 0
 IsNoBytes NotOfForm (Fault fault) = fault ≡ names.Number
 IsNoBytes NotOfForm NoMemory = ⊥
 IsNoBytes OutOfMemory refusal = refusal ≡ NoMemory
 
 -- a call returned this storage as an area, if it is one, out of memory apart
-abbrev pub MakesArea : Storage → Result Storage Refusal → Type 0
+abbrev pub MakesArea : Storage → Result Storage LineError → Type 0
 MakesArea storage (Ok area) = (is_area storage ≡ Ok tt) × (area ≡ storage)
 MakesArea storage (Err (Fault fault)) = is_area storage ≡ Err fault
 MakesArea storage (Err NoMemory) = Unit {0}

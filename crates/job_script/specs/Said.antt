@@ -18,7 +18,7 @@ pub record RecordSaid : Type 0 where
   pub key : List ℕ
   pub content : List ℕ
 
--- a medium with what lies on it: a disk, a tape of this many bytes, or a printer of lines and pages
+-- a medium with its content: a disk, a tape of this many bytes, or a printer of lines and pages
 pub data MediumSaid : Type 0 where
   disk : Geometry → List RecordSaid → MediumSaid
   tape : ℕ → List Item → MediumSaid

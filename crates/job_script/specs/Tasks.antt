@@ -1,15 +1,15 @@
--- THE COMMANDS OF EACH TASK, by their places among the commands of a script (profile).
+-- THE COMMANDS OF EACH TASK, by their indices among the commands of a script (profile).
 use Rattle.std.specs.Prelude.{ℕ, zero, suc, ◌+◌, ◌==◌, List, [], ◌∷◌, if◌then◌else◌}
 use Rattle.std.specs.Global.{Vec}
-use Rattle.job_script.specs.declared.command.Command.{Command}
+use Rattle.job_script.specs.declared.command.ScriptCommand.{ScriptCommand}
 
--- the places of the commands of a task, in the order of lines; the first of all these commands has the place `at`
-unfoldable pub places_from : ℕ → ℕ → List Command → List ℕ
+-- the indices of the commands of a task, in the order of lines; the first of all these commands has the index `at`
+unfoldable pub places_from : ℕ → ℕ → List ScriptCommand → List ℕ
 places_from task at [] = []
 places_from task at (c ∷ cs) = if c.task == task then at ∷ places_from task (at + 1) cs else places_from task (at + 1) cs
 
--- the places of the commands of a task among those of a script
-abbrev pub places_of : ℕ → List Command → List ℕ
+-- the indices of the commands of a task among those of a script
+abbrev pub places_of : ℕ → List ScriptCommand → List ℕ
 places_of task commands = places_from task 0 commands
 
 -- the list with this number; after the last list they are empty

@@ -5,6 +5,7 @@ use Rattle.job_script.specs.declared.line.verb.Verb.{Verb}
 use Rattle.job_script.specs.declared.line.verb.Verb.TheVariants.{SetUp, Excp, Purge, PurgeTask, Close, Reset, Wait}
 use Rattle.job_script.specs.declared.line.verb.SetUpVerb.TheVariants.{Tasks, Disk, Tape, Printer, Record, Block, Mark, Fault, Open, Area}
 
+-- the kind of a line, by its first word
 unfoldable pub verb_of : List ℕ → Option Verb
 verb_of word =
     if bytes_eq word (codes "excp") then Some Excp

@@ -43,7 +43,7 @@ pub enum Action {
 
 /// A command, its line, and the task that gives it.
 #[derive(Drop)]
-pub struct Command {
+pub struct ScriptCommand {
     pub line: usize,
     pub task: u16,
     pub action: Action,

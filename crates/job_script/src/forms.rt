@@ -8,15 +8,15 @@ ghost use Rattle.job_script.specs.Outcomes.{IsNoBytes, Reads, Returns, words_in}
 
 use crate::command::DcbName;
 use crate::fault::FaultName;
-use crate::refusal::Refusal;
+use crate::refusal::LineError;
 use io_images::Extent;
-use script_words::{FormError, Words};
+use script_words::{FormError, LineWords};
 use std::alloc::Global;
 use unit_book::{Mode, ProcessingMethod};
 
 /// The line has `count` words.
 #[inline(always)]
-pub fn has(line: &Words<'_>, count: usize) -> Result<(), FaultName>
+pub fn has(line: &LineWords<'_>, count: usize) -> Result<(), FaultName>
     ensures { Reads result (has count (words_in line.now)) }
 {
     if line.count() == count {
@@ -28,7 +28,7 @@ pub fn has(line: &Words<'_>, count: usize) -> Result<(), FaultName>
 
 /// The line has at least `count` words.
 #[inline(always)]
-pub fn has_least(line: &Words<'_>, count: usize) -> Result<(), FaultName>
+pub fn has_least(line: &LineWords<'_>, count: usize) -> Result<(), FaultName>
     ensures { Reads result (has_least count (words_in line.now)) }
 {
     if line.count() >= count {
@@ -40,7 +40,7 @@ pub fn has_least(line: &Words<'_>, count: usize) -> Result<(), FaultName>
 
 /// Reads a decimal number of 1 to 10 digits.
 #[inline(always)]
-pub(crate) fn number(line: &Words<'_>, place: usize) -> Result<u64, FaultName>
+pub(crate) fn number(line: &LineWords<'_>, place: usize) -> Result<u64, FaultName>
     requires { place < 8 }
     ensures { Reads result (number (word place (words_in line.now))) }
 {
@@ -52,7 +52,12 @@ pub(crate) fn number(line: &Words<'_>, place: usize) -> Result<u64, FaultName>
 
 /// Reads a decimal number from `least` to `most`.
 #[inline(always)]
-pub fn number_in(line: &Words<'_>, place: usize, least: u16, most: u16) -> Result<u16, FaultName>
+pub fn number_in(
+    line: &LineWords<'_>,
+    place: usize,
+    least: u16,
+    most: u16,
+) -> Result<u16, FaultName>
     requires { place < 8 }
     ensures value { Reads result (number_in least most (word place (words_in line.now))) }
     ensures low { IfOk result (λ n. least ≤ n) }
@@ -66,7 +71,7 @@ pub fn number_in(line: &Words<'_>, place: usize, least: u16, most: u16) -> Resul
 
 /// Reads the number of a task or a unit, below 64.
 #[inline(always)]
-pub fn index(line: &Words<'_>, place: usize) -> Result<u16, FaultName>
+pub fn index(line: &LineWords<'_>, place: usize) -> Result<u16, FaultName>
     requires { place < 8 }
     ensures value { Reads result (index (word place (words_in line.now))) }
     ensures high { IfOk result (λ n. n < 64) }
@@ -76,7 +81,7 @@ pub fn index(line: &Words<'_>, place: usize) -> Result<u16, FaultName>
 
 /// Reads an interruption subclass, 0 to 7.
 #[inline(always)]
-pub(crate) fn subclass(line: &Words<'_>, place: usize) -> Result<u8, FaultName>
+pub(crate) fn subclass(line: &LineWords<'_>, place: usize) -> Result<u8, FaultName>
     requires { place < 8 }
     ensures value { Reads result (subclass (word place (words_in line.now))) }
     ensures high { IfOk result (λ n. n ≤ 7) }
@@ -87,7 +92,7 @@ pub(crate) fn subclass(line: &Words<'_>, place: usize) -> Result<u8, FaultName>
 
 /// Reads a number of 16 bits.
 #[inline(always)]
-pub(crate) fn halfword(line: &Words<'_>, place: usize) -> Result<u16, FaultName>
+pub(crate) fn halfword(line: &LineWords<'_>, place: usize) -> Result<u16, FaultName>
     requires { place < 8 }
     ensures { Reads result (number_in 0 65535 (word place (words_in line.now))) }
 {
@@ -96,7 +101,7 @@ pub(crate) fn halfword(line: &Words<'_>, place: usize) -> Result<u16, FaultName>
 
 /// Reads a number of 8 bits.
 #[inline(always)]
-pub(crate) fn small_number(line: &Words<'_>, place: usize) -> Result<u8, FaultName>
+pub(crate) fn small_number(line: &LineWords<'_>, place: usize) -> Result<u8, FaultName>
     requires { place < 8 }
     ensures { Reads result (number_in 0 255 (word place (words_in line.now))) }
 {
@@ -106,7 +111,7 @@ pub(crate) fn small_number(line: &Words<'_>, place: usize) -> Result<u8, FaultNa
 
 /// Reads an address of 6 hexadecimal digits.
 #[inline(always)]
-pub(crate) fn address(line: &Words<'_>, place: usize) -> Result<u32, FaultName>
+pub(crate) fn address(line: &LineWords<'_>, place: usize) -> Result<u32, FaultName>
     requires { place < 8 }
     ensures { Reads result (address (word place (words_in line.now))) }
 {
@@ -118,7 +123,7 @@ pub(crate) fn address(line: &Words<'_>, place: usize) -> Result<u32, FaultName>
 
 /// Reads a byte of 2 hexadecimal digits.
 #[inline(always)]
-pub(crate) fn byte(line: &Words<'_>, place: usize) -> Result<u8, FaultName>
+pub(crate) fn byte(line: &LineWords<'_>, place: usize) -> Result<u8, FaultName>
     requires { place < 8 }
     ensures { Reads result (digits 2 (word place (words_in line.now))) }
 {
@@ -130,7 +135,7 @@ pub(crate) fn byte(line: &Words<'_>, place: usize) -> Result<u8, FaultName>
 
 /// Reads two bytes of 4 hexadecimal digits.
 #[inline(always)]
-pub(crate) fn two_bytes(line: &Words<'_>, place: usize) -> Result<u16, FaultName>
+pub(crate) fn two_bytes(line: &LineWords<'_>, place: usize) -> Result<u16, FaultName>
     requires { place < 8 }
     ensures { Reads result (digits 4 (word place (words_in line.now))) }
 {
@@ -142,7 +147,7 @@ pub(crate) fn two_bytes(line: &Words<'_>, place: usize) -> Result<u16, FaultName
 
 /// Reads bytes as an even number of hexadecimal digits, or `-` for no byte.
 #[inline(always)]
-pub(crate) fn bytes(alloc: Global, line: &Words<'_>, place: usize) -> Result<Vec<u8>, Refusal>
+pub(crate) fn bytes(alloc: Global, line: &LineWords<'_>, place: usize) -> Result<Vec<u8>, LineError>
     requires { place < 8 }
     ensures { Returns (λ v. v.items) result (bytes (word place (words_in line.now))) }
 {
@@ -154,17 +159,17 @@ pub(crate) fn bytes(alloc: Global, line: &Words<'_>, place: usize) -> Result<Vec
 
 /// Why a word gives no bytes.
 #[inline(always)]
-fn no_bytes(error: FormError) -> Refusal
+fn no_bytes(error: FormError) -> LineError
     ensures { IsNoBytes error result }
 {
     match error {
-        FormError::NotOfForm => Refusal::Fault(FaultName::Number),
-        FormError::OutOfMemory => Refusal::NoMemory,
+        FormError::NotOfForm => LineError::Fault(FaultName::Number),
+        FormError::OutOfMemory => LineError::NoMemory,
     }
 }
 
 /// Reads the bytes of the words after the first three, joined.
-pub(crate) fn joined_bytes(alloc: Global, line: &Words<'_>) -> Result<Vec<u8>, Refusal>
+pub(crate) fn joined_bytes(alloc: Global, line: &LineWords<'_>) -> Result<Vec<u8>, LineError>
     ensures { Returns (λ v. v.items) result (joined_bytes (drop 3 (words_in line.now))) }
 {
     let mut bytes = Vec::with_capacity(alloc, line.line.len() / 2)?;
@@ -179,14 +184,14 @@ pub(crate) fn joined_bytes(alloc: Global, line: &Words<'_>) -> Result<Vec<u8>, R
 }
 
 /// Reads an extent from each word after the first three.
-pub(crate) fn extents(alloc: Global, line: &Words<'_>) -> Result<Vec<Extent>, Refusal>
+pub(crate) fn extents(alloc: Global, line: &LineWords<'_>) -> Result<Vec<Extent>, LineError>
     ensures { Returns (λ v. v.items) result (extents (drop 3 (words_in line.now))) }
 {
     let mut extents = Vec::new(alloc);
     let mut left = script_words::after_words(line.line, 3);
     'words: while let Some((word, rest)) = script_words::next_word(left) {
         let Some(extent) = extent(word) else {
-            return Err(Refusal::Fault(FaultName::Number));
+            return Err(LineError::Fault(FaultName::Number));
         };
         extents.push(extent)?;
         left = rest;
@@ -205,7 +210,7 @@ fn extent(word: &[u8]) -> Option<Extent>
 /// Reads the number of a unit and of one of its DCBs, at least 1.
 #[inline(always)]
 #[tactic(auto, unfolding(crate::specs::Forms::dcb_name))]
-pub(crate) fn dcb_of(line: &Words<'_>, unit: usize, dcb: usize) -> Result<DcbName, FaultName>
+pub(crate) fn dcb_of(line: &LineWords<'_>, unit: usize, dcb: usize) -> Result<DcbName, FaultName>
     requires unit { unit < 8 }
     requires dcb { dcb < 8 }
     ensures { Reads result (dcb_name (word unit (words_in line.now)) (word dcb (words_in line.now))) }
@@ -218,7 +223,7 @@ pub(crate) fn dcb_of(line: &Words<'_>, unit: usize, dcb: usize) -> Result<DcbNam
 /// Reads `in` or `out`: what a DCB is opened for.
 #[inline(always)]
 #[tactic(auto, unfolding(crate::specs::Forms::method_of))]
-pub(crate) fn method_of(line: &Words<'_>, place: usize) -> Result<ProcessingMethod, FaultName>
+pub(crate) fn method_of(line: &LineWords<'_>, place: usize) -> Result<ProcessingMethod, FaultName>
     requires { place < 8 }
     ensures { Reads result (method_of (word place (words_in line.now))) }
 {
@@ -235,7 +240,7 @@ pub(crate) fn method_of(line: &Words<'_>, place: usize) -> Result<ProcessingMeth
 /// Reads `quiesce` or `halt`.
 #[inline(always)]
 #[tactic(auto, unfolding(crate::specs::Forms::mode_of))]
-pub fn mode_of(line: &Words<'_>, place: usize) -> Result<Mode, FaultName>
+pub fn mode_of(line: &LineWords<'_>, place: usize) -> Result<Mode, FaultName>
     requires { place < 8 }
     ensures { Reads result (mode_of (word place (words_in line.now))) }
 {

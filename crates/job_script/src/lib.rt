@@ -16,11 +16,11 @@ mod runs;
 mod script;
 mod set_up;
 
-pub use command::{Action, Command, DcbName, Excp};
+pub use command::{Action, DcbName, Excp, ScriptCommand};
 pub use fault::{FaultName, JobError};
-pub use line::{AreaLine, ExcpLine, Line, SetUpLine, TasksLine, UnitLine};
+pub use line::{AreaLine, ExcpLine, ScriptLine, SetUpLine, TasksLine, UnitLine};
 pub use reading::{LIMIT, read_script};
-pub use refusal::Refusal;
+pub use refusal::LineError;
 pub use runs::worked_runs;
 pub use script::Script;
-pub use set_up::{Medium, Opening, SetUp, UnitSetup};
+pub use set_up::{InitialMedium, Opening, SetUp, UnitSetup};

@@ -10,17 +10,17 @@ mod verb;
 ghost use Rattle.std.specs.Prelude.{◌≡◌, ◌≤◌, ◌<◌};
 ghost use Rattle.std.specs.Arc.{arc_value};
 
-use crate::command::{Command, DcbName, Excp};
+use crate::command::{DcbName, Excp, ScriptCommand};
 use crate::fault::FaultName;
 use crate::forms::is_comment;
-use crate::refusal::Refusal;
-use crate::set_up::{Medium, Opening};
+use crate::refusal::LineError;
+use crate::set_up::{InitialMedium, Opening};
 use areas::{area, opening, tasks};
 use ckd_disk::InitialRecord;
 use commands::{close, excp, purge, purge_task, reset, wait};
 use device_port::Fault as DeviceFault;
 use io_area::Area;
-use script_words::Words;
+use script_words::LineWords;
 use std::alloc::Global;
 use std::sync::Arc;
 use tape_unit::InitialItem;
@@ -54,7 +54,7 @@ pub struct UnitLine {
     pub number: u16,
     pub line: usize,
     pub isc: u8,
-    pub medium: Medium,
+    pub medium: InitialMedium,
     ghost few: { number < 64 },
     ghost subclass: { isc ≤ 7 },
 }
@@ -99,46 +99,51 @@ impl ExcpLine {
 
 /// What a line says.
 #[derive(Drop)]
-pub enum Line {
+pub enum ScriptLine {
     /// It is empty, or its first word begins with `#`.
     Nothing,
     SetUp(SetUpLine),
     Excp(ExcpLine),
     /// A command that is no EXCP.
-    Command(Command),
+    Command(ScriptCommand),
 }
 
-impl Line {
+impl ScriptLine {
     ghost use Rattle.job_script.specs.Lines.{by_verb, line_of};
     ghost use Rattle.job_script.specs.LineViews.{line_said};
     ghost use Rattle.job_script.specs.Outcomes.{Returns, words_in};
 
     /// Reads the line with this number.
-    pub fn read(alloc: Global, number: usize, line: &Words<'_>) -> Result<Line, Refusal>
+    pub fn read(alloc: Global, number: usize, line: &LineWords<'_>) -> Result<ScriptLine, LineError>
         ensures { Returns line_said result (line_of number line.now.line.now) }
     {
         match Verb::of_line(line)? {
-            None => Ok(Line::Nothing),
-            Some(verb) => Line::by_verb(alloc, number, verb, line),
+            None => Ok(ScriptLine::Nothing),
+            Some(verb) => ScriptLine::by_verb(alloc, number, verb, line),
         }
     }
 
     /// Reads a line of this kind.
     #[tactic(auto, unfolding(crate::specs::Lines::by_verb))]
-    fn by_verb(alloc: Global, number: usize, verb: Verb, line: &Words<'_>) -> Result<Line, Refusal>
+    fn by_verb(
+        alloc: Global,
+        number: usize,
+        verb: Verb,
+        line: &LineWords<'_>,
+    ) -> Result<ScriptLine, LineError>
         ensures { Returns line_said result (by_verb verb number (words_in line.now)) }
     {
         match verb {
             Verb::SetUp(verb) => {
                 let read = SetUpLine::read(alloc, number, verb, line)?;
-                Ok(Line::SetUp(read))
+                Ok(ScriptLine::SetUp(read))
             }
-            Verb::Excp => Ok(Line::Excp(excp(number, line)?)),
-            Verb::Purge => Ok(Line::Command(purge(number, line)?)),
-            Verb::PurgeTask => Ok(Line::Command(purge_task(number, line)?)),
-            Verb::Close => Ok(Line::Command(close(number, line)?)),
-            Verb::Reset => Ok(Line::Command(reset(number, line)?)),
-            Verb::Wait => Ok(Line::Command(wait(number, line)?)),
+            Verb::Excp => Ok(ScriptLine::Excp(excp(number, line)?)),
+            Verb::Purge => Ok(ScriptLine::Command(purge(number, line)?)),
+            Verb::PurgeTask => Ok(ScriptLine::Command(purge_task(number, line)?)),
+            Verb::Close => Ok(ScriptLine::Command(close(number, line)?)),
+            Verb::Reset => Ok(ScriptLine::Command(reset(number, line)?)),
+            Verb::Wait => Ok(ScriptLine::Command(wait(number, line)?)),
         }
     }
 }
@@ -154,8 +159,8 @@ impl SetUpLine {
         alloc: Global,
         number: usize,
         verb: SetUpVerb,
-        line: &Words<'_>,
-    ) -> Result<SetUpLine, Refusal>
+        line: &LineWords<'_>,
+    ) -> Result<SetUpLine, LineError>
         ensures { Returns set_up_line_said result (set_up_line verb number (words_in line.now)) }
     {
         match verb {
@@ -181,7 +186,7 @@ impl Verb {
     /// What kind of line it is, or none if it says nothing.
     #[inline(always)]
     #[tactic(auto, unfolding(crate::specs::Lines::line_kind))]
-    pub fn of_line(line: &Words<'_>) -> Result<Option<Verb>, FaultName>
+    pub fn of_line(line: &LineWords<'_>) -> Result<Option<Verb>, FaultName>
         ensures { Reads result (line_kind (is_printable line.now.line.now) (words_in line.now)) }
     {
         if line.count() == 0 {

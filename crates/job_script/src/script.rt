@@ -3,17 +3,17 @@
 ghost use Rattle.std.specs.Prelude.{◌≡◌, ◌<◌, ◌≤◌, ◌==◌, ◌++◌, ◌∷◌, [], ℕ, All, Contains, IfOk, OnErr, OnOk, get_or, if◌then◌else◌, length, option_copied, vec_len};
 ghost use Rattle.job_script.specs.Commands.{NamesUnits, most, request_count_of, request_count_to};
 ghost use Rattle.job_script.specs.Tasks.{list_of, places_of};
-ghost use Rattle.job_script.specs.declared.command.Command.{Command as OneCommand};
+ghost use Rattle.job_script.specs.declared.command.ScriptCommand.{ScriptCommand as OneCommand};
 
-use crate::command::{Action, Command};
+use crate::command::{Action, ScriptCommand};
 use crate::fault::{FaultName, JobError};
 use crate::line::areas::{area, opening, tasks};
 use crate::line::commands::{close, excp, purge, purge_task, reset, wait};
 use crate::line::units::{block, disk, fault, mark, printer, record, tape};
 use crate::line::{ExcpLine, SetUpLine, SetUpVerb, Verb, front};
-use crate::refusal::Refusal;
+use crate::refusal::LineError;
 use crate::set_up::SetUp;
-use script_words::Words;
+use script_words::LineWords;
 use std::alloc::{AllocError, Global};
 
 /// That no line declares the tasks, or a unit.
@@ -27,8 +27,8 @@ const NO_LINE: JobError = JobError::Line {
 pub struct Script {
     pub set_up: SetUp,
     /// The commands, in the order of their lines.
-    pub commands: Vec<Command>,
-    /// For each task, the places of its commands in `commands`, in their order.
+    pub commands: Vec<ScriptCommand>,
+    /// For each task, the indices of its commands in `commands`, in their order.
     places: Vec<Vec<usize>>,
     ghost declared: { (command : OneCommand) → Contains commands.items command → NamesUnits (vec_len set_up.units) command },
     ghost of_tasks: { (command : OneCommand) → Contains commands.items command → command.task < set_up.tasks },
@@ -60,7 +60,7 @@ impl Script {
         };
         let mut left = Some(text);
         let mut number: usize = 1;
-        let mut line = Words::new();
+        let mut line = LineWords::new();
         'lines: while let Some(text) = left {
             let after = script.numbered_line(alloc, number, text, &mut line)?;
             number += 1;
@@ -87,7 +87,7 @@ impl Script {
         alloc: Global,
         number: usize,
         text: &'a [u8],
-        line: &mut Words<'a>,
+        line: &mut LineWords<'a>,
     ) -> Result<Option<&'a [u8]>, JobError>
         ensures adds { LeadsAt number result (said self.new) (script_with_line number (leading_line text.now) (said self.old)) }
         ensures line { IfOk result (λ after. lines text.now ≡ leading_line text.now ∷ lines_left (option_copied after)) }
@@ -95,8 +95,8 @@ impl Script {
     {
         match self.leading_line(alloc, number, text, line) {
             Ok(after) => Ok(after),
-            Err(Refusal::Fault(name)) => Err(JobError::Line { line: number, name }),
-            Err(Refusal::NoMemory) => Err(JobError::NoMemory),
+            Err(LineError::Fault(name)) => Err(JobError::Line { line: number, name }),
+            Err(LineError::NoMemory) => Err(JobError::NoMemory),
         }
     }
 
@@ -107,8 +107,8 @@ impl Script {
         alloc: Global,
         number: usize,
         text: &'a [u8],
-        line: &mut Words<'a>,
-    ) -> Result<Option<&'a [u8]>, Refusal>
+        line: &mut LineWords<'a>,
+    ) -> Result<Option<&'a [u8]>, LineError>
         ensures adds { Leads result (said self.new) (script_with_line number (leading_line text.now) (said self.old)) }
         ensures line { IfOk result (λ after. lines text.now ≡ leading_line text.now ∷ lines_left (option_copied after)) }
         ensures shorter { IfOk result (λ after. bytes_left (option_copied after) ≤ length text.now) }
@@ -128,7 +128,12 @@ impl Script {
 
     /// Adds what the line with this number says.
     #[tactic(auto, unfolding(crate::specs::Adding::add_line))]
-    fn read_line(&mut self, alloc: Global, number: usize, line: &Words<'_>) -> Result<(), Refusal>
+    fn read_line(
+        &mut self,
+        alloc: Global,
+        number: usize,
+        line: &LineWords<'_>,
+    ) -> Result<(), LineError>
         ensures { Leads result (said self.new) (script_with_line number line.now.line.now (said self.old)) }
     {
         match Verb::of_line(line)? {
@@ -145,8 +150,8 @@ impl Script {
         alloc: Global,
         number: usize,
         verb: Verb,
-        line: &Words<'_>,
-    ) -> Result<(), Refusal>
+        line: &LineWords<'_>,
+    ) -> Result<(), LineError>
         ensures { Leads result (said self.new) (adds (by_verb verb number (words_in line.now)) (said self.old)) }
     {
         match verb {
@@ -168,8 +173,8 @@ impl Script {
         alloc: Global,
         number: usize,
         verb: SetUpVerb,
-        line: &Words<'_>,
-    ) -> Result<(), Refusal>
+        line: &LineWords<'_>,
+    ) -> Result<(), LineError>
         ensures { Leads result (said self.new) (adds_set_up (set_up_line verb number (words_in line.now)) (said self.old)) }
     {
         match verb {
@@ -189,11 +194,11 @@ impl Script {
     /// Adds what a set-up line says, if no command comes before it.
     #[inline(always)]
     #[tactic(auto, unfolding(crate::specs::Adding::add_line))]
-    fn add_set_up(&mut self, alloc: Global, line: SetUpLine) -> Result<(), Refusal>
+    fn add_set_up(&mut self, alloc: Global, line: SetUpLine) -> Result<(), LineError>
         ensures { Leads result (said self.new) (add_line (says_set_up (set_up_line_said line)) (said self.old)) }
     {
         if !self.commands.is_empty() {
-            return Err(Refusal::Fault(FaultName::Order));
+            return Err(LineError::Fault(FaultName::Order));
         }
         self.set_up.add(alloc, line)
     }
@@ -201,7 +206,7 @@ impl Script {
     /// Adds the command of an EXCP, if all that it names is declared.
     #[inline(always)]
     #[tactic(auto, unfolding(crate::specs::Adding::add_line))]
-    fn add_excp(&mut self, alloc: Global, excp: ExcpLine) -> Result<(), Refusal>
+    fn add_excp(&mut self, alloc: Global, excp: ExcpLine) -> Result<(), LineError>
         ensures { Leads result (said self.new) (add_line (says_excp excp) (said self.old)) }
     {
         let command = self.set_up.excp(excp)?;
@@ -211,11 +216,11 @@ impl Script {
     /// Adds a command, if all that it names is declared.
     #[inline(always)]
     #[tactic(auto, unfolding(crate::specs::Adding::add_command))]
-    fn add_command(&mut self, alloc: Global, command: Command) -> Result<(), Refusal>
+    fn add_command(&mut self, alloc: Global, command: ScriptCommand) -> Result<(), LineError>
         ensures { Leads result (said self.new) (add_command (command_said command) (said self.old)) }
     {
         self.set_up.names(&command)?;
-        // Makes room first, so that the command and its place are added together.
+        // Makes room first, so that the command and its index are added together.
         self.commands.reserve(1)?;
         let place = self.commands.len();
         add_place(alloc, &mut self.places, usize::from(command.task), place)?;
@@ -223,7 +228,7 @@ impl Script {
         Ok(())
     }
 
-    /// The places of a task's commands in `commands`, in the order of their lines.
+    /// The indices of a task's commands in `commands`, in the order of their lines.
     pub fn places_of(&self, task: u16) -> &[usize]
         ensures value { result.now ≡ places_of task self.now.commands.items }
         ensures inside { All (λ place. place < vec_len self.now.commands) result.now }
@@ -287,7 +292,7 @@ impl Script {
     }
 }
 
-/// Adds a place to the list with this number, after the places that are there.
+/// Adds an index to the list with this number, after the indices that are there.
 #[inline(always)]
 fn add_place(
     alloc: Global,

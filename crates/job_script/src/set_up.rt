@@ -7,10 +7,10 @@ ghost use Rattle.job_script.specs.Commands.{NamesUnits};
 ghost use Rattle.job_script.specs.Outcomes.{MakesArea};
 ghost use Rattle.job_script.specs.declared.fault.FaultName.TheVariants as names;
 
-use crate::command::{Action, Command, DcbName, Excp};
+use crate::command::{Action, DcbName, Excp, ScriptCommand};
 use crate::fault::FaultName;
 use crate::line::{AreaLine, ExcpLine, SetUpLine, TasksLine, UnitLine};
-use crate::refusal::Refusal;
+use crate::refusal::LineError;
 use ckd_disk::{Geometry, InitialRecord};
 use device_port::Fault as DeviceFault;
 use io_area::{Area, AreaError};
@@ -20,9 +20,9 @@ use std::sync::Arc;
 use tape_unit::InitialItem;
 use unit_book::ProcessingMethod;
 
-/// The medium of a unit, and what lies on it.
+/// The medium of a unit, with its content at the start of a run.
 #[derive(Drop)]
-pub enum Medium {
+pub enum InitialMedium {
     Disk(Geometry, Vec<InitialRecord>),
     /// The bytes of a tape, and its items.
     Tape(u64, Vec<InitialItem>),
@@ -43,7 +43,7 @@ pub struct Opening {
 pub struct UnitSetup {
     pub line: usize,
     pub isc: u8,
-    pub medium: Medium,
+    pub medium: InitialMedium,
     pub faults: Vec<DeviceFault>,
     pub openings: Vec<Opening>,
     ghost subclass: { isc ≤ 7 },
@@ -128,7 +128,7 @@ impl SetUp {
     /// All that a command names is declared: its task, and a DCB or another task.
     #[inline(always)]
     #[tactic(auto, unfolding(crate::specs::Adding::names_command))]
-    pub(crate) fn names(&self, command: &Command) -> Result<(), FaultName>
+    pub(crate) fn names(&self, command: &ScriptCommand) -> Result<(), FaultName>
         ensures read { Reads result (names_command (command_said command.now) (set_up_said self.now)) }
         ensures task { OnOk result (command.now.task < self.now.tasks) }
         ensures units { OnOk result (NamesUnits (vec_len self.now.units) command.now) }
@@ -144,11 +144,11 @@ impl SetUp {
 
     /// The area with this number.
     #[inline(always)]
-    fn area(&self, number: u64) -> Result<Arc<Area, Global>, Refusal>
+    fn area(&self, number: u64) -> Result<Arc<Area, Global>, LineError>
         ensures { Returns arc_value result (numbered number (set_up_said self.now).areas) }
     {
         if number >= self.areas.len() as u64 {
-            return Err(Refusal::Fault(FaultName::Name));
+            return Err(LineError::Fault(FaultName::Name));
         }
         let area = &self.areas[number as usize];
         Ok(Arc::try_clone(area)?)
@@ -156,7 +156,7 @@ impl SetUp {
 
     /// The EXCP of a line, with its area.
     #[inline(always)]
-    pub fn over_area(&self, line: ExcpLine) -> Result<Excp, Refusal>
+    pub fn over_area(&self, line: ExcpLine) -> Result<Excp, LineError>
         ensures { Returns excp_said result (excp_over line (set_up_said self.now)) }
     {
         let area = self.area(line.area)?;
@@ -166,10 +166,10 @@ impl SetUp {
     /// The command of an EXCP, with its area.
     #[inline(always)]
     #[tactic(auto, unfolding(crate::specs::Adding::excp_command))]
-    pub(crate) fn excp(&self, line: ExcpLine) -> Result<Command, Refusal>
+    pub(crate) fn excp(&self, line: ExcpLine) -> Result<ScriptCommand, LineError>
         ensures { Returns command_said result (excp_command line (set_up_said self.now)) }
     {
-        Ok(Command {
+        Ok(ScriptCommand {
             line: line.line,
             task: line.task,
             action: Action::Excp(self.over_area(line)?),
@@ -179,7 +179,7 @@ impl SetUp {
     /// Adds what a line says, in the order of the faults that it may have.
     #[inline(always)]
     #[tactic(auto, unfolding(crate::specs::Adding::add_set_up))]
-    pub fn add(&mut self, alloc: Global, line: SetUpLine) -> Result<(), Refusal>
+    pub fn add(&mut self, alloc: Global, line: SetUpLine) -> Result<(), LineError>
         ensures adds { Leads result (set_up_said self.new) (add_set_up (set_up_line_said line) (set_up_said self.old)) }
         ensures kept { OnErr result (set_up_said self.new ≡ set_up_said self.old) }
     {
@@ -197,12 +197,12 @@ impl SetUp {
     /// The tasks are declared once.
     #[inline(always)]
     #[tactic(auto, unfolding(crate::specs::Adding::add_tasks))]
-    fn add_tasks(&mut self, line: TasksLine) -> Result<(), Refusal>
+    fn add_tasks(&mut self, line: TasksLine) -> Result<(), LineError>
         ensures adds { Leads result (set_up_said self.new) (add_tasks line.tasks (set_up_said self.old)) }
         ensures kept { OnErr result (set_up_said self.new ≡ set_up_said self.old) }
     {
         if self.tasks != 0 {
-            return Err(Refusal::Fault(FaultName::Order));
+            return Err(LineError::Fault(FaultName::Order));
         }
         self.tasks = line.tasks;
         Ok(())
@@ -211,38 +211,38 @@ impl SetUp {
     /// A unit has the next number.
     #[inline(always)]
     #[tactic(auto, unfolding(crate::specs::Adding::add_unit))]
-    fn add_unit(&mut self, alloc: Global, line: UnitLine) -> Result<(), Refusal>
+    fn add_unit(&mut self, alloc: Global, line: UnitLine) -> Result<(), LineError>
         ensures adds { Leads result (set_up_said self.new) (add_unit line.number (unit_line_said line) (set_up_said self.old)) }
         ensures kept { OnErr result (set_up_said self.new ≡ set_up_said self.old) }
     {
         if usize::from(line.number) != self.units.len() {
-            return Err(Refusal::Fault(FaultName::Order));
+            return Err(LineError::Fault(FaultName::Order));
         }
         self.units.push(UnitSetup::new(alloc, line))?;
         Ok(())
     }
 
-    /// A record lies on a disk.
+    /// Adds a record to a disk.
     #[inline(always)]
-    fn add_record(&mut self, place: usize, added: InitialRecord) -> Result<(), Refusal>
+    fn add_record(&mut self, place: usize, added: InitialRecord) -> Result<(), LineError>
         ensures adds { Leads result (set_up_said self.new) (change_unit place (add_record (record_said added)) (set_up_said self.old)) }
         ensures kept { OnErr result (set_up_said self.new ≡ set_up_said self.old) }
     {
         if place >= self.units.len() {
-            return Err(Refusal::Fault(FaultName::Name));
+            return Err(LineError::Fault(FaultName::Name));
         }
         let unit = &mut self.units[place];
         unit.add_record(added)
     }
 
-    /// A block or a mark lies on a tape.
+    /// Adds a block or a mark to a tape.
     #[inline(always)]
-    fn add_item(&mut self, place: usize, item: InitialItem) -> Result<(), Refusal>
+    fn add_item(&mut self, place: usize, item: InitialItem) -> Result<(), LineError>
         ensures adds { Leads result (set_up_said self.new) (change_unit place (add_item (initial item)) (set_up_said self.old)) }
         ensures kept { OnErr result (set_up_said self.new ≡ set_up_said self.old) }
     {
         if place >= self.units.len() {
-            return Err(Refusal::Fault(FaultName::Name));
+            return Err(LineError::Fault(FaultName::Name));
         }
         let unit = &mut self.units[place];
         unit.add_item(item)
@@ -250,12 +250,12 @@ impl SetUp {
 
     /// A unit meets a fault.
     #[inline(always)]
-    fn add_fault(&mut self, place: usize, fault: DeviceFault) -> Result<(), Refusal>
+    fn add_fault(&mut self, place: usize, fault: DeviceFault) -> Result<(), LineError>
         ensures adds { Leads result (set_up_said self.new) (change_unit place (add_fault fault) (set_up_said self.old)) }
         ensures kept { OnErr result (set_up_said self.new ≡ set_up_said self.old) }
     {
         if place >= self.units.len() {
-            return Err(Refusal::Fault(FaultName::Name));
+            return Err(LineError::Fault(FaultName::Name));
         }
         let unit = &mut self.units[place];
         unit.add_fault(fault)
@@ -263,12 +263,12 @@ impl SetUp {
 
     /// A DCB has the next number of its unit.
     #[inline(always)]
-    fn add_opening(&mut self, place: usize, opening: Opening) -> Result<(), Refusal>
+    fn add_opening(&mut self, place: usize, opening: Opening) -> Result<(), LineError>
         ensures adds { Leads result (set_up_said self.new) (change_unit place (add_opening (opening_said opening)) (set_up_said self.old)) }
         ensures kept { OnErr result (set_up_said self.new ≡ set_up_said self.old) }
     {
         if place >= self.units.len() {
-            return Err(Refusal::Fault(FaultName::Name));
+            return Err(LineError::Fault(FaultName::Name));
         }
         let unit = &mut self.units[place];
         unit.add_opening(opening)
@@ -277,12 +277,12 @@ impl SetUp {
     /// An area has the next number.
     #[inline(always)]
     #[tactic(auto, unfolding(crate::specs::Adding::add_area))]
-    fn add_area(&mut self, alloc: Global, added: AreaLine) -> Result<(), Refusal>
+    fn add_area(&mut self, alloc: Global, added: AreaLine) -> Result<(), LineError>
         ensures adds { Leads result (set_up_said self.new) (add_area added.number (record { base = added.base; bytes = added.bytes.items }) (set_up_said self.old)) }
         ensures kept { OnErr result (set_up_said self.new ≡ set_up_said self.old) }
     {
         if added.number != self.areas.len() as u64 {
-            return Err(Refusal::Fault(FaultName::Order));
+            return Err(LineError::Fault(FaultName::Order));
         }
         let area = new_area(alloc, added.base, &added.bytes)?;
         let area = Arc::new(alloc, area)?;
@@ -311,39 +311,39 @@ impl UnitSetup {
         }
     }
 
-    /// A record lies on it, if it is a disk.
+    /// Adds a record, if it is a disk.
     #[inline(always)]
-    fn add_record(&mut self, added: InitialRecord) -> Result<(), Refusal>
+    fn add_record(&mut self, added: InitialRecord) -> Result<(), LineError>
         ensures adds { Leads result (unit_said self.new) (add_record (record_said added) (unit_said self.old)) }
         ensures kept { OnErr result (unit_said self.new ≡ unit_said self.old) }
     {
         match &mut self.medium {
-            Medium::Disk(_, records) => {
+            InitialMedium::Disk(_, records) => {
                 records.push(added)?;
                 Ok(())
             }
-            _ => Err(Refusal::Fault(FaultName::Kind)),
+            _ => Err(LineError::Fault(FaultName::Kind)),
         }
     }
 
-    /// An item lies on it, if it is a tape.
+    /// Adds an item, if it is a tape.
     #[inline(always)]
-    fn add_item(&mut self, item: InitialItem) -> Result<(), Refusal>
+    fn add_item(&mut self, item: InitialItem) -> Result<(), LineError>
         ensures adds { Leads result (unit_said self.new) (add_item (initial item) (unit_said self.old)) }
         ensures kept { OnErr result (unit_said self.new ≡ unit_said self.old) }
     {
         match &mut self.medium {
-            Medium::Tape(_, items) => {
+            InitialMedium::Tape(_, items) => {
                 items.push(item)?;
                 Ok(())
             }
-            _ => Err(Refusal::Fault(FaultName::Kind)),
+            _ => Err(LineError::Fault(FaultName::Kind)),
         }
     }
 
     /// It meets a fault.
     #[inline(always)]
-    fn add_fault(&mut self, fault: DeviceFault) -> Result<(), Refusal>
+    fn add_fault(&mut self, fault: DeviceFault) -> Result<(), LineError>
         ensures adds { Leads result (unit_said self.new) (add_fault fault (unit_said self.old)) }
         ensures kept { OnErr result (unit_said self.new ≡ unit_said self.old) }
     {
@@ -353,7 +353,7 @@ impl UnitSetup {
 
     /// It has one more DCB.
     #[inline(always)]
-    fn add_opening(&mut self, opening: Opening) -> Result<(), Refusal>
+    fn add_opening(&mut self, opening: Opening) -> Result<(), LineError>
         ensures adds { Leads result (unit_said self.new) (add_opening (opening_said opening) (unit_said self.old)) }
         ensures kept { OnErr result (unit_said self.new ≡ unit_said self.old) }
     {
@@ -363,12 +363,12 @@ impl UnitSetup {
 }
 
 /// The area of these bytes from `base`.
-fn new_area(alloc: Global, base: u32, bytes: &[u8]) -> Result<Area, Refusal>
+fn new_area(alloc: Global, base: u32, bytes: &[u8]) -> Result<Area, LineError>
     ensures { MakesArea (record { base = base; bytes = bytes.now }) result }
 {
     match Area::new(alloc, base, bytes) {
         Ok(area) => Ok(area),
-        Err(AreaError::NoMemory) => Err(Refusal::NoMemory),
-        Err(_) => Err(Refusal::Fault(FaultName::Area)),
+        Err(AreaError::NoMemory) => Err(LineError::NoMemory),
+        Err(_) => Err(LineError::Fault(FaultName::Area)),
     }
 }

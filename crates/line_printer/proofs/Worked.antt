@@ -3,11 +3,11 @@ use Rattle.std.proofs.Common.{◌≡◌, ℕ, List, [], ◌∷◌, replicate, re
 use Rattle.device_port.specs.declared.answer.Acted.{Acted}
 use Rattle.device_port.specs.declared.faults.Fault.{Fault}
 use Rattle.device_port.specs.Answers.{normal_end, unit_check}
-use Rattle.line_printer.specs.declared.paper.Position.{Position}
+use Rattle.line_printer.specs.declared.paper.PaperPosition.{PaperPosition}
 use Rattle.line_printer.specs.Printer.{PrinterState, act}
 use Rattle.line_printer.specs.Mount.{opening}
 
-abbrev at : ℕ → ℕ → Position
+abbrev at : ℕ → ℕ → PaperPosition
 at page line = record { page = page; line = line }
 
 abbrev four : List ℕ

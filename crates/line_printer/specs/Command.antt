@@ -23,7 +23,7 @@ command_of code =
     else if code == 0x8B then Some (Move motion.SkipToChannelOne)
     else None
 
--- the way that its data goes
+-- the direction of its data
 abbrev pub flow_of : Option Command → Flow
 flow_of None = flow.None
 flow_of (Some NoOperation) = flow.None

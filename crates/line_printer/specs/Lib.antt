@@ -4,5 +4,6 @@ pub mod Paper
 pub mod Command
 pub mod Printer
 pub mod PrinterLaws
+pub mod PrinterSize
 pub mod Mount
 pub mod Refusals

@@ -11,7 +11,7 @@ use Rattle.device_port.specs.Sense.{intervention_required}
 use Rattle.line_printer.specs.declared.command.Command.{Command}
 use Rattle.line_printer.specs.declared.command.Command.TheVariants.{NoOperation, Sense, Print, Move}
 use Rattle.line_printer.specs.declared.paper.Motion.{Motion}
-use Rattle.line_printer.specs.declared.paper.Position.{Position}
+use Rattle.line_printer.specs.declared.paper.PaperPosition.{PaperPosition}
 use Rattle.line_printer.specs.Paper.{Line, after_motion}
 use Rattle.line_printer.specs.Command.{command_of, flow_of}
 
@@ -21,15 +21,15 @@ pub record PrinterState : Type 0 where
   pub most : ℕ
   pub pages : ℕ
   pub printed : List Line
-  pub at : Position
+  pub at : PaperPosition
   pub ordinals : Ordinals
 
--- the list has room for no line more
+-- the list of printed lines is full
 abbrev pub is_full : PrinterState → Bool
 is_full printer = nat_le printer.most (length printer.printed)
 
 -- a position is after the last page
-abbrev pub is_past : PrinterState → Position → Bool
+abbrev pub is_past : PrinterState → PaperPosition → Bool
 is_past printer at = nat_lt printer.pages at.page
 
 -- a line has 132 columns: what is given beyond is not printed
@@ -37,7 +37,7 @@ abbrev pub columns_of : List ℕ → List ℕ
 columns_of given = take 132 given
 
 -- the printer with one line more, and its paper at another position
-abbrev pub with_line : PrinterState → List ℕ → Position → PrinterState
+abbrev pub with_line : PrinterState → List ℕ → PaperPosition → PrinterState
 with_line printer bytes to = record printer { printed = printer.printed ++ record { at = printer.at; bytes = bytes } ∷ []; at = to }
 
 -- PRINT a line at the position of the paper, then move the paper: 01 by no line, 09 by one, 11 by two, 19 by three, 89

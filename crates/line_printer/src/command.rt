@@ -39,7 +39,7 @@ impl Command {
         Some(command)
     }
 
-    /// The way that the data of a command goes.
+    /// The direction of a command's data.
     pub fn flow(command: Option<Self>) -> Flow
         ensures { result ≡ flow_of command }
     {

@@ -12,6 +12,6 @@ mod paper;
 mod printed_line;
 mod printer;
 
-pub use paper::Position;
+pub use paper::PaperPosition;
 pub use printed_line::PrintedLine;
 pub use printer::{PaperRefusal, Printer, paper_refusal};

@@ -8,34 +8,34 @@ use std::marker::Model;
 
 /// The printed lines, with room for a number of them.
 #[derive(Drop)]
-pub struct Listing {
+pub struct Printout {
     lines: Vec<PrintedLine>,
     room: usize,
 }
 
-impl Model for Listing {
-    ghost use Rattle.std.specs.Prelude.{◌≤◌, vec_capacity};
+impl Model for Printout {
+    ghost use Rattle.std.specs.Prelude.{◌≤◌, length, vec_capacity};
     ghost use Rattle.line_printer.specs.Paper.{Listing as Lines};
 
     ghost Value = { Lines };
 
     ghost view = { λ l. record { room = l.room; lines = l.lines.items } };
 
-    ghost invariant = { λ l. l.room ≤ vec_capacity l.lines };
+    ghost invariant = { λ l. (length l.lines.items ≤ l.room) × (l.room ≤ vec_capacity l.lines) };
 }
 
-impl Listing {
+impl Printout {
     /// No line, with room for `room` of them.
     pub fn new(alloc: Global, room: usize) -> Result<Self, AllocError>
         ensures { IfOk result (λ l. l ≡ record { room = room; lines = [] }) }
     {
-        Ok(Listing {
+        Ok(Printout {
             lines: Vec::with_capacity(alloc, room)?,
             room,
         })
     }
 
-    /// Copies the listing: its lines, and room for as many more. Fails only if memory runs out.
+    /// Copies the printout: its lines, and its capacity. Fails only if memory runs out.
     pub fn copy(&self) -> Result<Self, AllocError>
         ensures { IfOk result (λ l. l ≡ self.now) }
     {
@@ -43,10 +43,21 @@ impl Listing {
         for line in &self.lines {
             lines.push(line.copy())?;
         }
-        Ok(Listing {
+        Ok(Printout {
             lines,
             room: self.room,
         })
+    }
+
+    /// Becomes the same as another listing with room for as many lines. Never allocates.
+    pub fn copy_from(&mut self, from: &Self)
+        requires { self.old.room ≡ from.now.room }
+        ensures { self.new ≡ from.now }
+    {
+        self.lines.clear();
+        for line in &from.lines {
+            self.lines.push_reserved(line.copy());
+        }
     }
 
     /// How many lines there is room for.

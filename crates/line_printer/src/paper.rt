@@ -18,14 +18,14 @@ pub enum Motion {
     SkipToChannelOne,
 }
 
-/// The place of a line: its page, counted from 1, and its number there, 1 to 66.
+/// The position of a line: its page, counted from 1, and its number there, 1 to 66.
 #[derive(Clone, Copy, Debug, PartialEq, Eq)]
-pub struct Position {
+pub struct PaperPosition {
     pub page: u16,
     pub line: u8,
 }
 
-impl Position {
+impl PaperPosition {
     /// Where a motion leads.
     pub fn moved(self, motion: Motion) -> Self
         requires on_page { IsOnPage self }
@@ -38,7 +38,7 @@ impl Position {
             Motion::SpaceOne => self.spaced(1),
             Motion::SpaceTwo => self.spaced(2),
             Motion::SpaceThree => self.spaced(3),
-            Motion::SkipToChannelOne => Position {
+            Motion::SkipToChannelOne => PaperPosition {
                 page: self.page + 1,
                 line: 1,
             },
@@ -55,12 +55,12 @@ impl Position {
     {
         let line = self.line + lines;
         if line <= PAGE_LINES {
-            return Position {
+            return PaperPosition {
                 page: self.page,
                 line,
             };
         }
-        Position {
+        PaperPosition {
             page: self.page + 1,
             line: line - PAGE_LINES,
         }

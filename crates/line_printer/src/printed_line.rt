@@ -3,7 +3,7 @@
 ghost use Rattle.std.specs.Prelude.{◌≡◌, ◌≤◌, length};
 ghost use Rattle.line_printer.specs.Printer.{columns_of};
 
-use crate::paper::Position;
+use crate::paper::PaperPosition;
 use device_port::Given;
 use std::marker::Model;
 
@@ -13,7 +13,7 @@ const COLUMNS: usize = 132;
 /// A line that was printed, as contracts see it: its position and its bytes.
 #[derive(Drop)]
 pub struct PrintedLine {
-    position: Position,
+    position: PaperPosition,
     len: usize,
     columns: [u8; COLUMNS],
 }
@@ -31,7 +31,7 @@ impl Model for PrintedLine {
 
 impl PrintedLine {
     /// A line of the first bytes that a program gives, up to the number of columns.
-    pub(crate) fn new(position: Position, given: &Given<'_>) -> Self
+    pub(crate) fn new(position: PaperPosition, given: &Given<'_>) -> Self
         ensures { result ≡ record { at = position; bytes = columns_of given.now } }
     {
         let len = given.len().min(COLUMNS);
@@ -56,7 +56,7 @@ impl PrintedLine {
     }
 
     /// The position of the line: page and line.
-    pub fn position(&self) -> Position
+    pub fn position(&self) -> PaperPosition
         ensures { result ≡ self.now.at }
     {
         self.position

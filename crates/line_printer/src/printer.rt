@@ -7,14 +7,15 @@ ghost use Rattle.device_port.specs.Faults.{IsClear};
 ghost use Rattle.line_printer.specs.Mount.{is_paper};
 ghost use Rattle.line_printer.specs.Printer.{printer};
 ghost use Rattle.line_printer.specs.PrinterLaws.{printer_lawful};
+ghost use Rattle.line_printer.specs.PrinterSize.{printer_keeps_size, printer_size};
 
 use crate::command::Command;
-use crate::listing::Listing;
-use crate::paper::{Motion, Position};
+use crate::listing::Printout;
+use crate::paper::{Motion, PaperPosition};
 use crate::printed_line::PrintedLine;
 use device_port::{
-    Acted, Chain, Device, Fault, FaultScript, Flow, Given, INTERVENTION_REQUIRED, Kind, MountError,
-    SENSE_BYTES, is_script,
+    Acted, Chain, Device, Fault, FaultScript, FixedSize, Flow, Given, INTERVENTION_REQUIRED, Kind,
+    MountError, SENSE_BYTES, is_script,
 };
 use io_area::Area;
 use io_images::Seek;
@@ -27,9 +28,9 @@ use std::slice::Iter;
 /// pages it prints at most, and the fault script.
 #[derive(Drop)]
 pub struct Printer {
-    listing: Listing,
+    listing: Printout,
     pages: u16,
-    position: Position,
+    position: PaperPosition,
     faults: FaultScript,
 }
 
@@ -74,7 +75,7 @@ impl Printer {
         if !is_script(faults) {
             return Err(MountError::BadMedium);
         }
-        let Ok(listing) = Listing::new(alloc, lines as usize) else {
+        let Ok(listing) = Printout::new(alloc, lines as usize) else {
             return Err(MountError::NoMemory);
         };
         let Ok(faults) = FaultScript::new(alloc, faults) else {
@@ -83,7 +84,7 @@ impl Printer {
         Ok(Printer {
             listing,
             pages: pages as u16,
-            position: Position { page: 1, line: 1 },
+            position: PaperPosition { page: 1, line: 1 },
             faults,
         })
     }
@@ -111,7 +112,7 @@ impl Printer {
     }
 
     /// Where the next line goes.
-    pub fn position(&self) -> Position
+    pub fn position(&self) -> PaperPosition
         ensures { result ≡ self.now.at }
     {
         self.position
@@ -214,4 +215,17 @@ impl Device for Printer {
     }
 
     ghost lawful = { printer_lawful };
+}
+
+impl FixedSize for Printer {
+    ghost size = { printer_size };
+
+    fn copy_from(&mut self, from: &Self) {
+        self.listing.copy_from(&from.listing);
+        self.faults.copy_from(&from.faults);
+        self.pages = from.pages;
+        self.position = from.position;
+    }
+
+    ghost keeps_size = { printer_keeps_size };
 }

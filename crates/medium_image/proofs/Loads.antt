@@ -10,9 +10,9 @@ use Rattle.tape_unit.specs.Reel.{longest_reel}
 use Rattle.image_source.specs.Filled.{Fills}
 use Rattle.aws_tape.specs.Reading.{Loads as LoadsTape}
 use Rattle.aws_tape.specs.declared.fault.AwsError.{AwsError}
-use Rattle.aws_tape.specs.declared.image.Image.{Image as TapeImage}
+use Rattle.aws_tape.specs.declared.image.TapeImage.{TapeImage}
 use Rattle.ckd_image.specs.declared.fault.CkdError.{CkdError}
-use Rattle.ckd_image.specs.declared.kept.Image.{Image as DiskImage}
+use Rattle.ckd_image.specs.declared.kept.DiskImage.{DiskImage}
 use Rattle.ckd_image.specs.Loading.{FailsImage, IsFault, Loaded}
 use Rattle.medium_image.specs.Loading.{AreOfKind, LoadsDisk, begins_as_disk}
 

@@ -4,7 +4,7 @@ use Rattle.std.proofs.lemmas.List.{map-append}
 use Rattle.std.proofs.lemmas.Str.{encodes-append}
 use Rattle.std.specs.Str.{encode_utf8_all}
 use Rattle.std.specs.Char.{encode_utf8}
-use Rattle.line_printer.specs.declared.paper.Position.{Position}
+use Rattle.line_printer.specs.declared.paper.PaperPosition.{PaperPosition}
 use Rattle.line_printer.specs.Paper.{Line}
 use Rattle.medium_image.specs.Paper.{before_rest, character, line_text, lines_text, motion_text, without_blanks}
 
@@ -37,13 +37,13 @@ text_more bytes byte =
     ∙ ap (λ (l : List ℕ). encode_utf8_all (map character bytes) ++ l) (append-nil (encode_utf8 (character byte)))
 
 -- one line more
-pub next_text : (is_printed : Bool) (from : Position) (line : Line) (others : List Line) (to : Position)
+pub next_text : (is_printed : Bool) (from : PaperPosition) (line : Line) (others : List Line) (to : PaperPosition)
     → lines_text is_printed from (line ∷ others) to
     ≡ motion_text is_printed from line.at ++ (line_text line.bytes ++ lines_text true line.at others to)
 unfolding lines_text
 next_text is_printed from line others to = refl
 
 -- no line is left
-pub last_text : (is_printed : Bool) (from to : Position) → lines_text is_printed from [] to ≡ motion_text is_printed from to
+pub last_text : (is_printed : Bool) (from to : PaperPosition) → lines_text is_printed from [] to ≡ motion_text is_printed from to
 unfolding lines_text
 last_text is_printed from to = refl

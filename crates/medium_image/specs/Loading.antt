@@ -7,7 +7,7 @@ use Rattle.ckd_image.specs.Loading.{FailsImage, IsFault, Loaded}
 use Rattle.aws_tape.specs.declared.fault.AwsFault.TheVariants as tape_fault
 use Rattle.ckd_image.specs.declared.fault.CkdError.{CkdError}
 use Rattle.ckd_image.specs.declared.fault.CkdFault.TheVariants as disk_fault
-use Rattle.ckd_image.specs.declared.kept.Image.{Image as DiskImage}
+use Rattle.ckd_image.specs.declared.kept.DiskImage.{DiskImage}
 use Rattle.medium_image.specs.declared.image.Image.{Image}
 use Rattle.medium_image.specs.declared.image.Image.TheVariants.{Disk, Tape}
 use Rattle.medium_image.specs.declared.image.ImageError.{ImageError}

@@ -3,7 +3,7 @@
 ghost use Rattle.std.specs.Prelude.{◌≡◌};
 ghost use Rattle.medium_image.specs.Paper.{character};
 
-/// What stands for a control character, which is none that can be printed (profile).
+/// Replaces a control character, which cannot be printed (profile).
 const NO_CHARACTER: char = '\u{fffd}';
 
 /// The characters from X'40' on, sixteen a row.

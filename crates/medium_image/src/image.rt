@@ -21,14 +21,14 @@ const DISK: &[u8] = b"CKD_";
 /// An image of a disk or a tape, and what its file has beside the medium.
 #[derive(Drop)]
 pub enum Image {
-    Disk(ckd_image::Image),
-    Tape(aws_tape::Image),
+    Disk(ckd_image::DiskImage),
+    Tape(aws_tape::TapeImage),
 }
 
 /// What the file of an image has beside the medium. With it, an image is saved as it was.
 #[derive(Drop)]
 pub enum Kept {
-    Disk(ckd_image::Kept),
+    Disk(ckd_image::DiskImageDetails),
     Tape(Layout),
 }
 
@@ -126,7 +126,7 @@ fn is_disk(first: &[u8]) -> bool
 }
 
 /// The geometry of the disk of an image.
-pub fn geometry(image: &ckd_image::Image) -> Geometry
+pub fn geometry(image: &ckd_image::DiskImage) -> Geometry
     ensures { result ≡ geometry_of image.now.volume }
 {
     let volume = &image.volume;

@@ -5,7 +5,7 @@ ghost use Rattle.std.specs.Io.KnownBytes.{Appends};
 ghost use Rattle.medium_image.specs.Paper.{line_text, motion_text, paper_text, without_blanks};
 
 use crate::characters::character;
-use line_printer::{Position, Printer};
+use line_printer::{PaperPosition, Printer};
 use std::io;
 use std::io::Write;
 
@@ -13,7 +13,7 @@ use std::io::Write;
 const BLANK: u8 = 0x40;
 
 /// The top of the first page.
-const TOP: Position = Position { page: 1, line: 1 };
+const TOP: PaperPosition = PaperPosition { page: 1, line: 1 };
 
 /// Writes what a printer has printed, as text in UTF-8: each printed line without its trailing blanks, and after it how
 /// the paper moved. A line feed is a line down, and a form feed the top of the next page. A carriage return says that
@@ -36,8 +36,8 @@ pub(crate) fn write_paper<W: Write>(out: &mut W, printer: &Printer) -> io::Resul
 /// Writes how the paper moved from one position to another. `is_printed` says whether a line was printed at the first.
 fn write_motion<W: Write>(
     out: &mut W,
-    from: Position,
-    to: Position,
+    from: PaperPosition,
+    to: PaperPosition,
     is_printed: bool,
 ) -> io::Result<()>
     ensures { OnOk result (Appends (W.contents out.old) (W.contents out.new) (motion_text is_printed from to)) }

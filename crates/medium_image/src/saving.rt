@@ -148,7 +148,7 @@ fn save_disk<W: Write>(
 fn write_disk<W: Write>(
     alloc: Global,
     writer: &mut W,
-    kept: &ckd_image::Kept,
+    kept: &ckd_image::DiskImageDetails,
     mounted: &Disk,
     now: &Disk,
 ) -> Result<(), SaveError>
@@ -160,8 +160,8 @@ fn write_disk<W: Write>(
 {
     match ckd_image::save(alloc, writer, kept, mounted, now) {
         Ok(()) => Ok(()),
-        Err(ckd_image::SaveError::NoMemory) => Err(SaveError::NoMemory),
-        Err(ckd_image::SaveError::NotWritten(kind)) => Err(SaveError::NotWritten(kind)),
+        Err(ckd_image::DiskSaveError::NoMemory) => Err(SaveError::NoMemory),
+        Err(ckd_image::DiskSaveError::NotWritten(kind)) => Err(SaveError::NotWritten(kind)),
         Err(_) => Err(SaveError::NotWritten(ErrorKind::InvalidInput)),
     }
 }
@@ -169,13 +169,13 @@ fn write_disk<W: Write>(
 /// What a new image of a disk has.
 ///
 /// Error: `NoModel`.
-fn of_model(alloc: Global, disk: &Disk) -> Result<ckd_image::Kept, SaveError>
+fn of_model(alloc: Global, disk: &Disk) -> Result<ckd_image::DiskImageDetails, SaveError>
     ensures new { IfOk result (IsNewImage disk.now) }
     ensures fault { IfErr result (λ e. e ≡ SaveError.NoModel disk.now.heads (min (track_of disk.now.tracks 0).size (2 ^ 32 - 1))) }
 {
     let heads = disk.heads();
     let track_bytes = track_bytes(disk);
-    match ckd_image::Kept::of_model(alloc, heads, track_bytes) {
+    match ckd_image::DiskImageDetails::of_model(alloc, heads, track_bytes) {
         Ok(kept) => Ok(kept),
         Err(_) => Err(SaveError::NoModel { heads, track_bytes }),
     }

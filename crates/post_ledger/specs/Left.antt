@@ -30,7 +30,7 @@ pub record AreLists (units tasks : ℕ) (lists : List (List (List PostedState)))
   pub few : length lists ≤ tasks
   pub each : All (λ of_units. length of_units ≡ units) lists
 
--- some unit's state is not at the place of its number
+-- some unit's state is not at the index of its number
 abbrev pub AreMixed : {D : Type 0} → List (Locked D) → Type 0
 AreMixed {D} units = (k : ℕ) × (v : Locked D) × (slice_get units k ≡ Some v) × (v.unit ≢ k)
 
@@ -41,7 +41,7 @@ IsCause count Mixed (Some units) = AreMixed units
 IsCause count NoMemory None = ⊤
 IsCause count NoMemory (Some units) = ArePlaced (λ v. v.unit) count units
 
--- units that were free have worked, and stay free; of what lies under a lock nothing is known
+-- units that were free have worked, and stay free; nothing is known of what a lock protects
 abbrev pub WorkOn : {D : Type 0} → Option (List (Locked D)) → Option (List (Locked D)) → Type 0
 WorkOn None new = ⊤
 WorkOn (Some old) None = ⊥

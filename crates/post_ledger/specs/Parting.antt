@@ -12,7 +12,7 @@ use Rattle.fifo_row.specs.Ends.{Taking}
 use Rattle.fifo_row.specs.Lists.{of_sender}
 use Rattle.excp_system.specs.Sites.{SiteRows, intake_rows, post_rows, task_of, unit_of, for_task, taker_of}
 use Rattle.signed_list.specs.Signed.{items_of, signed_by}
-use Rattle.excp_system.specs.declared.control.Control.{Control}
+use Rattle.unit_book.specs.declared.control.Control.{Control}
 use Rattle.excp_system.specs.Controls.{Controlled, KeepsLog, LogState, PensState, asked_of}
 use Rattle.excp_system.specs.Fans.{FanState, sent_to}
 use Rattle.excp_system.specs.States.{Locked, TaskState, sent_by}

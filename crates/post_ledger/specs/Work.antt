@@ -9,7 +9,7 @@ use Rattle.fifo_row.specs.Lists.{of_sender}
 use Rattle.excp_system.specs.Sites.{unit_of}
 use Rattle.excp_system.specs.States.{Locked, TaskState}
 
--- the entry tells of a request that arrived, was started, ran or was posted
+-- the entry is of a request that arrived, was started, ran or was posted
 abbrev pub is_work : Entry → Bool
 is_work (Arrive r) = true
 is_work (Start n) = true

@@ -11,7 +11,7 @@ pub enum Cause {
     /// There was no memory for what has to grow.
     #[error("no memory")]
     NoMemory,
-    /// A unit's state is not at the place of its number, since somebody put it under the lock of another.
+    /// A unit's state is not at the index of its number, since somebody put it under the lock of another.
     #[error("a unit's state is under the lock of another")]
     Mixed,
 }

@@ -35,9 +35,9 @@ struct TaskParts<'r, S: Site> {
     hands: Vec<Pens<'r, S>>,
 }
 
-/// Room for what units and tasks are taken apart into.
+/// Lists that were made large enough for the parts of all units and tasks, so that taking them apart never allocates.
 #[derive(Drop)]
-pub(crate) struct Room<'r, S: Opened<D>, D: Device> {
+pub(crate) struct PartStore<'r, S: Opened<D>, D: Device> {
     books: Vec<UnitBook<D>>,
     intakes: Vec<Taker<'r, Sent>>,
     backs: Vec<Fan<'r, Returned, PostRows<S>>>,
@@ -54,17 +54,17 @@ pub(crate) struct Room<'r, S: Opened<D>, D: Device> {
     ghost no_hands: { (hands.items ≡ []) × (S.rows.tasks ≤ vec_capacity hands) },
 }
 
-impl<'r, S: Opened<D>, D: Device> Room<'r, S, D> {
-    /// Room for all units and tasks of a site.
+impl<'r, S: Opened<D>, D: Device> PartStore<'r, S, D> {
+    /// Lists large enough for all units and tasks of a site.
     pub(crate) fn new(
         alloc: Global,
         units: usize,
         tasks: usize,
-    ) -> Result<Room<'r, S, D>, AllocError>
+    ) -> Result<PartStore<'r, S, D>, AllocError>
         requires units { units ≡ S.rows.units }
         requires tasks { tasks ≡ S.rows.tasks }
     {
-        Ok(Room {
+        Ok(PartStore {
             books: Vec::with_capacity(alloc, units)?,
             intakes: Vec::with_capacity(alloc, units)?,
             backs: Vec::with_capacity(alloc, units)?,
@@ -148,7 +148,7 @@ fn split_tasks<'r, S: Site>(tasks: Vec<Task<'r, S>>, parts: TaskParts<'r, S>) ->
 pub(crate) fn join_all<'r, S: Opened<D>, D: Device>(
     units: Vec<UnitState<'r, S, D>>,
     tasks: Vec<Task<'r, S>>,
-    room: Room<'r, S, D>,
+    room: PartStore<'r, S, D>,
 ) -> Vec<UnitBook<D>>
     requires units { ArePlaced (λ unit. unit.unit) S.rows.units units.items }
     requires tasks { ArePlaced (λ task. task.number) S.rows.tasks tasks.items }
@@ -160,7 +160,7 @@ pub(crate) fn join_all<'r, S: Opened<D>, D: Device>(
     ensures settled { AreSettled D.meaning units.entry.items tasks.entry.items }
     ensures controlled { AreControlled S.own_calls S.opened units.entry.items tasks.entry.items }
 {
-    let Room {
+    let PartStore {
         books,
         intakes,
         backs,

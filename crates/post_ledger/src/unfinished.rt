@@ -12,7 +12,7 @@ ghost use Rattle.post_ledger.specs.Work.{CollectsAll, Works};
 
 use crate::cause::Cause;
 use crate::drain::drain;
-use crate::parting::{Room, join_all};
+use crate::parting::{PartStore, join_all};
 use crate::places::are_placed;
 use crate::posts::{Posts, make_lists};
 use crate::report::Report;
@@ -156,7 +156,7 @@ impl<'r, S: Opened<D>, D: Device> Unfinished<'r, S, D> {
 
 /// Brings a run to its end, once its workers have ended. It takes the locks off. Units and tasks do all that is left,
 /// until nothing is on its way between them. Then it joins the ends of each row. The tasks are all tasks of the system,
-/// each at the place of its number.
+/// each at the index of its number.
 ///
 /// Whatever the threads of the run did, this holds of each unit of the report, with the trace of its book:
 ///
@@ -203,7 +203,7 @@ pub fn finish<'r, S: Opened<D>, D: Device, R: Wait>(
     run.resume(rt)
 }
 
-/// Brings a run whose units are free to its end, if each unit's state is at the place of its number.
+/// Brings a run whose units are free to its end, if each unit's state is at the index of its number.
 fn go_on<'r, S: Opened<D>, D: Device, R: Wait>(
     rt: &R,
     alloc: Global,
@@ -257,7 +257,7 @@ fn make_ready<'r, S: Opened<D>, D: Device, R: Wait>(
     units: &mut Vec<UnitState<'r, S, D>>,
     tasks: &mut Vec<Task<'r, S>>,
     posts: &mut Vec<Posts>,
-) -> Result<Room<'r, S, D>, AllocError>
+) -> Result<PartStore<'r, S, D>, AllocError>
     requires units { ArePlaced (λ unit. unit.unit) S.rows.units units.old.items }
     requires tasks { ArePlaced (λ task. task.number) S.rows.tasks tasks.old.items }
     requires lists { AreLists S.rows.units S.rows.tasks posts.old.items }
@@ -270,7 +270,7 @@ fn make_ready<'r, S: Opened<D>, D: Device, R: Wait>(
 {
     make_lists(alloc, posts, tasks.len(), units.len())?;
     drain(rt, units, tasks, posts)?;
-    Room::new(alloc, units.len(), tasks.len())
+    PartStore::new(alloc, units.len(), tasks.len())
 }
 
 /// Joins the rows of a run in which nothing is left to do, and gives its report. It takes no memory, and cannot be
@@ -279,7 +279,7 @@ fn close<'r, S: Opened<D>, D: Device>(
     units: Vec<UnitState<'r, S, D>>,
     tasks: Vec<Task<'r, S>>,
     posts: Vec<Posts>,
-    room: Room<'r, S, D>,
+    room: PartStore<'r, S, D>,
 ) -> Report<D>
     requires units { ArePlaced (λ unit. unit.unit) S.rows.units units.items }
     requires tasks { ArePlaced (λ task. task.number) S.rows.tasks tasks.items }

@@ -5,7 +5,7 @@ use Rattle.std.specs.declared.alloc.Global.{Global}
 use Rattle.io_area.specs.Storage.{Storage, bytes_at, lies_in}
 use Rattle.request_piece.specs.PostedState.{PostedState}
 use Rattle.post_lines.specs.declared.end.End.{End}
-use Rattle.post_lines.specs.declared.slot.Slot.{Slot}
+use Rattle.post_lines.specs.declared.slot.PostSlot.{PostSlot}
 use Rattle.post_lines.specs.declared.slots.Slots.{Slots}
 
 -- what a slot holds
@@ -14,14 +14,14 @@ pub record SlotState : Type 0 where
   pub shown : List ℕ
   pub end : Option End
 
-abbrev pub slot_of : Slot → SlotState
+abbrev pub slot_of : PostSlot → SlotState
 slot_of slot = record { show = slot.show; shown = slot.shown.items; end = slot.end }
 
 abbrev pub slots_of : Slots → List (List SlotState)
 slots_of slots = map (λ of_unit. map slot_of of_unit.items) slots.units.items
 
 -- its request was posted
-abbrev pub is_filled : Slot → Bool
+abbrev pub is_filled : PostSlot → Bool
 is_filled slot = is_some (slot_of slot).end
 
 -- a slot that waits
@@ -67,7 +67,7 @@ abbrev pub expected : ℕ → ℕ → ℕ → List (List SlotState) → List (Li
 expected unit show len slots = change (λ of_unit. of_unit ++ waiting_slot show len ∷ []) unit slots
 
 -- the slot of a request to a unit, by its number from 1
-abbrev pub slot_at : Vec (Vec Slot Global) Global → ℕ → ℕ → Option Slot
+abbrev pub slot_at : Vec (Vec PostSlot Global) Global → ℕ → ℕ → Option PostSlot
 slot_at units unit number =
     option_and_then (λ of_unit. if number == 0 then None else slice_get of_unit.items (number - 1)) (slice_get units.items unit)
 

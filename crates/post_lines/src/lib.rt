@@ -14,6 +14,6 @@ mod writing;
 pub use end::End;
 pub use post::{write_outcome, write_post, write_posted};
 pub use posts::{shown, write_count, write_task};
-pub use slot::Slot;
+pub use slot::PostSlot;
 pub use slots::Slots;
 pub use writing::{digits_of, put_decimal, write_bytes};

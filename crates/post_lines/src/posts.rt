@@ -7,7 +7,7 @@ ghost use Rattle.post_lines.specs.Slots.{shown_in, slot_of, slots_of};
 ghost use Rattle.post_lines.specs.Lines.{count_text, slot_line, task_text, unit_text};
 
 use crate::post::write_post;
-use crate::slot::Slot;
+use crate::slot::PostSlot;
 use crate::slots::Slots;
 use crate::writing::{put_decimal, write_text};
 use request_piece::Posted;
@@ -26,7 +26,7 @@ pub fn write_task<W: Write>(out: &mut W, task: usize, slots: &Slots) -> io::Resu
 }
 
 /// Writes the lines of the posts of a task's requests to a unit.
-fn write_unit<W: Write>(out: &mut W, task: usize, unit: usize, slots: &[Slot]) -> io::Result<()>
+fn write_unit<W: Write>(out: &mut W, task: usize, unit: usize, slots: &[PostSlot]) -> io::Result<()>
     ensures whole { OnOk result (Appends (W.contents out.old) (W.contents out.new) (unit_text task unit 1 (map slot_of slots.now))) }
     ensures part { OnErr result (AppendsPart (W.contents out.old) (W.contents out.new) (unit_text task unit 1 (map slot_of slots.now))) }
 {
@@ -42,7 +42,7 @@ fn write_slot<W: Write>(
     task: usize,
     unit: usize,
     number: usize,
-    slot: &Slot,
+    slot: &PostSlot,
 ) -> io::Result<()>
     ensures whole { OnOk result (Appends (W.contents out.old) (W.contents out.new) (slot_line task unit number (slot_of slot.now))) }
     ensures part { OnErr result (AppendsPart (W.contents out.old) (W.contents out.new) (slot_line task unit number (slot_of slot.now))) }

@@ -13,7 +13,7 @@ const FEW: usize = 16;
 
 /// What is kept of a request: the bytes of its area that are shown, and how it ended, once it was posted.
 #[derive(Drop)]
-pub struct Slot {
+pub struct PostSlot {
     /// The address of the bytes that are shown.
     show: u32,
     /// Room for them, and then the bytes.
@@ -33,12 +33,12 @@ fn room_for(alloc: Global, len: usize) -> Result<SmallVec<u8, FEW>, AllocError>
     Ok(SmallVec::from_vec(bytes))
 }
 
-impl Slot {
+impl PostSlot {
     /// The slot of a request that is to show `len` bytes at the address `show`.
-    pub fn new(alloc: Global, show: u32, len: usize) -> Result<Slot, AllocError>
+    pub fn new(alloc: Global, show: u32, len: usize) -> Result<PostSlot, AllocError>
         ensures { IfOk result (λ slot. slot_of slot ≡ waiting_slot show len) }
     {
-        Ok(Slot {
+        Ok(PostSlot {
             show,
             shown: room_for(alloc, len)?,
             end: None,

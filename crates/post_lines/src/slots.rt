@@ -5,14 +5,14 @@ ghost use Rattle.std.specs.List.{list_all};
 ghost use Rattle.std.specs.Option.{option_copied};
 ghost use Rattle.post_lines.specs.Slots.{expected, filled, filled_unit, is_filled, slot_at, slot_of, slots_of};
 
-use crate::slot::Slot;
+use crate::slot::PostSlot;
 use request_piece::Posted;
 use std::alloc::{AllocError, Global};
 
 /// The slots of the requests of a task, by units and numbers.
 #[derive(Drop)]
 pub struct Slots {
-    pub units: Vec<Vec<Slot>>,
+    pub units: Vec<Vec<PostSlot>>,
 }
 
 impl Slots {
@@ -42,7 +42,7 @@ impl Slots {
     {
         let unit = usize::from(unit);
         if unit < self.units.len() {
-            self.units[unit].push(Slot::new(alloc, show, len)?)?;
+            self.units[unit].push(PostSlot::new(alloc, show, len)?)?;
         }
         Ok(())
     }
@@ -65,7 +65,7 @@ impl Slots {
     }
 
     /// The slot of a request to a unit, by its number.
-    pub fn get(&self, unit: usize, number: usize) -> Option<&Slot>
+    pub fn get(&self, unit: usize, number: usize) -> Option<&PostSlot>
         ensures { option_copied result ≡ slot_at self.now.units unit number }
     {
         self.units.get(unit)?.get(number.checked_sub(1)?)
@@ -73,7 +73,7 @@ impl Slots {
 }
 
 /// Fills the slot of the number of a post.
-fn fill_unit(slots: &mut [Slot], posted: &Posted)
+fn fill_unit(slots: &mut [PostSlot], posted: &Posted)
     ensures { map slot_of slots.new ≡ filled_unit posted.now (map slot_of slots.old) }
 {
     let number = posted.name().seq as usize;
@@ -83,7 +83,7 @@ fn fill_unit(slots: &mut [Slot], posted: &Posted)
 }
 
 /// Whether each of these requests was posted.
-fn are_filled(slots: &[Slot]) -> bool
+fn are_filled(slots: &[PostSlot]) -> bool
     ensures { result ≡ list_all is_filled slots.now }
 {
     slots.iter().all(|slot| slot.is_filled())

@@ -24,7 +24,7 @@ pub fn digits_of(byte: u8) -> [u8; 2]
     ]
 }
 
-/// Puts a number in decimal into a text, up to this place, and gives the place of its first digit.
+/// Puts a number in decimal into a text, up to this index, and gives the index of its first digit.
 pub fn put_decimal(text: &mut [u8], end: usize, number: usize) -> usize
     requires { (20 ≤ end) × (end ≤ length text.old) }
     ensures start { result + length (decimal number) ≡ end }
@@ -35,7 +35,7 @@ pub fn put_decimal(text: &mut [u8], end: usize, number: usize) -> usize
     write_digits(number as u64, text, end)
 }
 
-/// Puts bytes in hexadecimal into a text, from this place on.
+/// Puts bytes in hexadecimal into a text, from this index on.
 pub fn put_digits(text: &mut [u8], place: usize, bytes: &[u8])
     requires { place + 2 * length bytes.now ≤ length text.old }
     ensures { text.new ≡ take place text.old ++ in_digits bytes.now ++ drop (place + 2 * length bytes.now) text.old }

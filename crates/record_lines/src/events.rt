@@ -8,37 +8,37 @@ use request_piece::{Issued, Name, Scope};
 use std::io;
 use std::io::Write;
 use unit_book::{Mode, ProcessingMethod};
-use unit_history::{Cause, Event, Told};
+use unit_history::{EventKind, PostCause, UnitEvent};
 
-/// Writes an event, and first its place in the order of all units, if there is one.
+/// Writes an event, and first its position in the order of all units, if there is one.
 pub(crate) fn write_event<W: Write>(
     out: &mut W,
     at: Option<usize>,
-    event: &Event<'_>,
+    event: &UnitEvent<'_>,
 ) -> io::Result<()> {
     out.write_all(b"{")?;
     if let Some(at) = at {
         write!(out, "\"at\":{at},")?;
     }
     write!(out, "\"entry\":{},\"what\":", event.entry)?;
-    write_told(out, &event.told)?;
+    write_event_kind(out, &event.kind)?;
     out.write_all(b"}\n")
 }
 
 /// Writes what happened: its word, and its members.
-fn write_told<W: Write>(out: &mut W, told: &Told<'_>) -> io::Result<()> {
-    match told {
-        Told::Opened {
+fn write_event_kind<W: Write>(out: &mut W, kind: &EventKind<'_>) -> io::Result<()> {
+    match kind {
+        EventKind::Opened {
             dcb,
             method,
             extents,
         } => write_opening(out, *dcb, *method, extents),
-        Told::Arrived(issued) => write_arrival(out, issued),
-        Told::Started { name, attempt } => {
+        EventKind::Arrived(issued) => write_arrival(out, issued),
+        EventKind::Started { name, attempt } => {
             write_named(out, "started", *name)?;
             write!(out, ",\"attempt\":{attempt}")
         }
-        Told::Ran {
+        EventKind::Ran {
             name,
             commands,
             turns,
@@ -46,15 +46,15 @@ fn write_told<W: Write>(out: &mut W, told: &Told<'_>) -> io::Result<()> {
             write_named(out, "ran", *name)?;
             write!(out, ",\"commands\":{commands},\"turns\":{turns}")
         }
-        Told::Halted(name) => write_named(out, "halted", *name),
-        Told::Purged {
+        EventKind::Halted(name) => write_named(out, "halted", *name),
+        EventKind::Purged {
             scope,
             mode,
             active,
         } => write_purge(out, *scope, *mode, *active),
-        Told::Closed { dcb } => write!(out, "\"closed\",\"dcb\":{dcb}"),
-        Told::Reset { dcb } => write!(out, "\"reset\",\"dcb\":{dcb}"),
-        Told::Posted {
+        EventKind::Closed { dcb } => write!(out, "\"closed\",\"dcb\":{dcb}"),
+        EventKind::Reset { dcb } => write!(out, "\"reset\",\"dcb\":{dcb}"),
+        EventKind::Posted {
             name,
             end,
             cause,
@@ -144,7 +144,7 @@ fn write_purge<W: Write>(
     }
 }
 
-fn write_posting<W: Write>(out: &mut W, name: Name, end: &End, cause: Cause) -> io::Result<()> {
+fn write_posting<W: Write>(out: &mut W, name: Name, end: &End, cause: PostCause) -> io::Result<()> {
     write_named(out, "posted", name)?;
     write_end(out, end)?;
     match cause.in_words() {

@@ -13,4 +13,4 @@ mod places;
 mod posts;
 mod steps;
 
-pub use lines::{Part, write_run, write_unit};
+pub use lines::{RecordDetail, write_run, write_unit};

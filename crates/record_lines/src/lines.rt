@@ -13,7 +13,7 @@ use unit_history::{Dcbs, Events, HistoryError};
 
 /// How much of a record is written.
 #[derive(Clone, Copy, PartialEq, Eq)]
-pub enum Part {
+pub enum RecordDetail {
     /// The posts alone.
     Posts,
     /// All but the commands of channel programs.
@@ -27,7 +27,7 @@ pub fn write_run<W: Write>(
     out: &mut W,
     alloc: Global,
     run: &Run<'_>,
-    part: Part,
+    part: RecordDetail,
 ) -> Result<(), HistoryError> {
     let order = if run.is_ordered() { "run" } else { "units" };
     writeln!(
@@ -36,7 +36,7 @@ pub fn write_run<W: Write>(
         run.tasks.len()
     )?;
     write_posts(out, run.tasks)?;
-    if part == Part::Posts {
+    if part == RecordDetail::Posts {
         return Ok(());
     }
     write_tasks(out, run.tasks)?;
@@ -52,18 +52,18 @@ pub fn write_unit<W: Write>(
     alloc: Global,
     number: usize,
     unit: &UnitRecord<'_>,
-    part: Part,
+    part: RecordDetail,
 ) -> Result<(), HistoryError> {
     write_head(out, number, unit)?;
     let mut dcbs = Dcbs::of_units(alloc, std::slice::from_ref(unit.book))?;
     let mut steps = match part {
-        Part::Steps(most) => Some(Steps::of(unit, most)?),
+        RecordDetail::Steps(most) => Some(Steps::of(unit, most)?),
         _ => None,
     };
     for event in Events::of(unit.book, &mut dcbs) {
         write_event(out, unit.place_of(event.entry), &event)?;
         if let Some(steps) = &mut steps {
-            steps.write(out, &event.told)?;
+            steps.write(out, &event.kind)?;
         }
     }
     write_medium(out, unit)?;

@@ -1,25 +1,25 @@
-//! The lines of a medium, and of what lies on it.
+//! The lines of a medium, and of its records, items or printed lines.
 
 use crate::form::{OrNull, write_member};
 use any_device::AnyDevice;
-use ckd_disk::{Disk, Stored};
+use ckd_disk::{Disk, StoredRecord};
 use device_port::Device;
 use line_printer::{PrintedLine, Printer};
-use run_record::{Room, UnitRecord};
+use run_record::{MediumCapacity, UnitRecord};
 use std::io;
 use std::io::Write;
 use tape_unit::Tape;
 
 /// A track, by its cylinder and its head.
 #[derive(Clone, Copy)]
-struct Track {
+struct TrackAddress {
     cylinder: u16,
     head: u16,
 }
 
-impl Track {
+impl TrackAddress {
     /// Whether a record is the R0 that mounting puts on it.
-    fn has_mounted(self, record: &Stored<'_>) -> bool {
+    fn has_mounted(self, record: &StoredRecord<'_>) -> bool {
         let [cylinder_high, cylinder_low] = self.cylinder.to_be_bytes();
         let [head_high, head_low] = self.head.to_be_bytes();
         record.id() == [cylinder_high, cylinder_low, head_high, head_low, 0].as_slice()
@@ -58,12 +58,12 @@ fn write_disk<W: Write>(out: &mut W, disk: &Disk) -> io::Result<()> {
 
 fn write_cylinder<W: Write>(out: &mut W, disk: &Disk, cylinder: u16) -> io::Result<()> {
     for head in 0..disk.heads() {
-        write_track(out, disk, Track { cylinder, head })?;
+        write_track(out, disk, TrackAddress { cylinder, head })?;
     }
     Ok(())
 }
 
-fn write_track<W: Write>(out: &mut W, disk: &Disk, track: Track) -> io::Result<()> {
+fn write_track<W: Write>(out: &mut W, disk: &Disk, track: TrackAddress) -> io::Result<()> {
     let mut nth: usize = 0;
     for record in disk.records(track.cylinder, track.head) {
         if nth > 0 || !track.has_mounted(&record) {
@@ -74,14 +74,14 @@ fn write_track<W: Write>(out: &mut W, disk: &Disk, track: Track) -> io::Result<(
     Ok(())
 }
 
-/// Writes a record, and its place on its track.
+/// Writes a record, and its position on its track.
 fn write_record<W: Write>(
     out: &mut W,
-    track: Track,
+    track: TrackAddress,
     nth: usize,
-    record: &Stored<'_>,
+    record: &StoredRecord<'_>,
 ) -> io::Result<()> {
-    let Track { cylinder, head } = track;
+    let TrackAddress { cylinder, head } = track;
     write!(
         out,
         "{{\"what\":\"record\",\"cylinder\":{cylinder},\"head\":{head},\"nth\":{nth}"
@@ -93,9 +93,9 @@ fn write_record<W: Write>(
 }
 
 /// Writes a tape: its size, how many items it has, after how many of them it is, and its items.
-fn write_tape<W: Write>(out: &mut W, tape: &Tape, room: Option<Room>) -> io::Result<()> {
+fn write_tape<W: Write>(out: &mut W, tape: &Tape, room: Option<MediumCapacity>) -> io::Result<()> {
     let bytes = match room {
-        Some(Room::Tape { bytes }) => Some(bytes),
+        Some(MediumCapacity::Tape { bytes }) => Some(bytes),
         _ => None,
     };
     writeln!(
@@ -119,9 +119,13 @@ fn write_item<W: Write>(out: &mut W, block: Option<&[u8]>) -> io::Result<()> {
 }
 
 /// Writes a printer: its size, where its paper is, and its lines.
-fn write_printer<W: Write>(out: &mut W, printer: &Printer, room: Option<Room>) -> io::Result<()> {
+fn write_printer<W: Write>(
+    out: &mut W,
+    printer: &Printer,
+    room: Option<MediumCapacity>,
+) -> io::Result<()> {
     let (lines, pages) = match room {
-        Some(Room::Printer { lines, pages }) => (Some(lines), Some(pages)),
+        Some(MediumCapacity::Printer { lines, pages }) => (Some(lines), Some(pages)),
         _ => (None, None),
     };
     let at = printer.position();

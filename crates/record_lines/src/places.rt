@@ -3,24 +3,24 @@
 use crate::form::{write_hex, write_member};
 use std::io;
 use std::io::Write;
-use unit_history::{Passed, Place, RecordPlace};
+use unit_history::{MediumPosition, Passed, RecordPlace};
 
 /// The most records of a track that are listed where a search found none.
 const MOST_PASSED: usize = 64;
 
-/// Writes the member of the place of a command.
-pub(crate) fn write_place<W: Write>(out: &mut W, place: &Place<'_>) -> io::Result<()> {
+/// Writes the member of the position of a command.
+pub(crate) fn write_place<W: Write>(out: &mut W, place: &MediumPosition<'_>) -> io::Result<()> {
     out.write_all(b",\"place\":{")?;
     match place {
-        Place::Record(record) => write_record_place(out, record)?,
-        Place::NoRecord(passed) => write_passed(out, passed)?,
-        Place::Item(number) => write!(out, "\"item\":{number}")?,
-        Place::Line(at) => write!(out, "\"page\":{},\"line\":{}", at.page, at.line)?,
+        MediumPosition::Record(record) => write_record_place(out, record)?,
+        MediumPosition::NoRecord(passed) => write_passed(out, passed)?,
+        MediumPosition::Item(number) => write!(out, "\"item\":{number}")?,
+        MediumPosition::Line(at) => write!(out, "\"page\":{},\"line\":{}", at.page, at.line)?,
     }
     out.write_all(b"}")
 }
 
-/// Writes a record: its track, its number, its CCHHR if that is not of the track, its place on the track, and its key.
+/// Writes a record: its track, its number, its CCHHR if that is not of the track, its position on the track, and its key.
 fn write_record_place<W: Write>(out: &mut W, record: &RecordPlace<'_>) -> io::Result<()> {
     let last = record.id.last().copied().unwrap_or(0);
     write!(

@@ -2,7 +2,7 @@
 
 use crate::form::write_member;
 use post_lines::End;
-use run_record::{Ended, TaskEvent, TaskRecord};
+use run_record::{EndedRequest, TaskEvent, TaskRecord};
 use std::io;
 use std::io::Write;
 
@@ -36,7 +36,7 @@ fn write_posts_at<W: Write>(
 }
 
 /// Writes how a request ended, up to the end of its line.
-fn write_ended<W: Write>(out: &mut W, ended: &Ended<'_>) -> io::Result<()> {
+fn write_ended<W: Write>(out: &mut W, ended: &EndedRequest<'_>) -> io::Result<()> {
     write_end(out, &ended.end)?;
     write_member(out, "shown", Some(ended.shown))?;
     write!(out, ",\"iob_at\":\"{:06X}\"", ended.iob.show())?;

@@ -9,8 +9,8 @@ use std::alloc::AllocError;
 use std::io;
 use std::io::Write;
 use unit_history::{
-    After, Broken, Command, CommandList, Commands, Ending, HistoryError, Moved, Next, Shown, Told,
-    Way,
+    After, BrokenCcw, CommandList, Commands, DataDirection, EndingStatus, EventKind,
+    ExecutedCommand, HistoryError, Moved, Next, Shown,
 };
 
 /// The commands of a unit, replayed.
@@ -35,8 +35,12 @@ impl<'t> Steps<'t> {
     }
 
     /// Replays the next event, and writes its commands, each on a line. Where the first command is left out, a line says so.
-    pub fn write<W: Write>(&mut self, out: &mut W, told: &Told<'_>) -> Result<(), HistoryError> {
-        let Told::Ran { commands, .. } = told else {
+    pub fn write<W: Write>(
+        &mut self,
+        out: &mut W,
+        kind: &EventKind<'_>,
+    ) -> Result<(), HistoryError> {
+        let EventKind::Ran { commands, .. } = kind else {
             self.commands.pass()?;
             return Ok(());
         };
@@ -58,8 +62,8 @@ impl<'t> Steps<'t> {
     }
 }
 
-/// Writes a command: its CCWs, the bytes that it moved, how it ended, and its place.
-fn write_command<W: Write>(out: &mut W, command: &Command<'_>) -> io::Result<()> {
+/// Writes a command: its CCWs, the bytes that it moved, how it ended, and its position.
+fn write_command<W: Write>(out: &mut W, command: &ExecutedCommand<'_>) -> io::Result<()> {
     out.write_all(b"{\"what\":\"step\",\"ccws\":[")?;
     let mut comma = "";
     for link in command.links() {
@@ -75,7 +79,7 @@ fn write_command<W: Write>(out: &mut W, command: &Command<'_>) -> io::Result<()>
 }
 
 /// Writes what a command did whose CCWs break no rule.
-fn write_done<W: Write>(out: &mut W, command: &Command<'_>) -> io::Result<()> {
+fn write_done<W: Write>(out: &mut W, command: &ExecutedCommand<'_>) -> io::Result<()> {
     if let Some(moved) = command.moved() {
         write_moved(out, &moved)?;
     }
@@ -97,7 +101,7 @@ fn write_ccw<W: Write>(out: &mut W, comma: &str, link: &Link) -> io::Result<()> 
 }
 
 /// Writes the rule that a CCW breaks.
-fn write_broken<W: Write>(out: &mut W, broken: &Broken<'_>) -> io::Result<()> {
+fn write_broken<W: Write>(out: &mut W, broken: &BrokenCcw<'_>) -> io::Result<()> {
     write!(out, ",\"rule\":{{\"at\":\"{:06X}\"", broken.at)?;
     write_member(out, "image", broken.image)?;
     write!(out, ",\"text\":\"{}\"}}", broken.rule)
@@ -106,9 +110,9 @@ fn write_broken<W: Write>(out: &mut W, broken: &Broken<'_>) -> io::Result<()> {
 /// Writes the first of the bytes that a command moved.
 fn write_moved<W: Write>(out: &mut W, moved: &Moved) -> io::Result<()> {
     let way = match moved.way {
-        Way::From => "from",
-        Way::To => "to",
-        Way::DownFrom => "down from",
+        DataDirection::From => "from",
+        DataDirection::To => "to",
+        DataDirection::DownFrom => "down from",
     };
     write!(
         out,
@@ -124,7 +128,7 @@ fn write_moved<W: Write>(out: &mut W, moved: &Moved) -> io::Result<()> {
 }
 
 /// Writes how a command ended, and where its program goes on or which sense bytes it left.
-fn write_ending<W: Write>(out: &mut W, ending: &Ending) -> io::Result<()> {
+fn write_ending<W: Write>(out: &mut W, ending: &EndingStatus) -> io::Result<()> {
     write!(
         out,
         ",\"status\":\"{:04X}\",\"residual\":\"{:04X}\"",

@@ -16,7 +16,7 @@ is_ecb_place area iob ecb =
 abbrev pub is_program_place : Storage → ℕ → Bool
 is_program_place area start = (start % 8 == 0) && lies_in area start 8
 
--- a piece has its places
+-- the control blocks of a piece are at valid addresses
 pub record Placed (r : Piece) : Type 0 where
   pub iob : is_iob_place r.area r.iob ≡ true
   pub ecb : is_ecb_place r.area r.iob r.ecb ≡ true

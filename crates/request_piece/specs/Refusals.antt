@@ -16,13 +16,13 @@ reason_of (Ecb at m) = EcbPlace
 reason_of (Program at m) = ProgramPlace
 reason_of (OtherDcb dcb) = DcbMismatch
 
--- a place is wrong in this way; one that is aligned and in the area overlaps the IOB
+-- an address is wrong in this way; one that is aligned and in the area overlaps the IOB
 abbrev pub IsMisplaced : Storage → ℕ → ℕ → ℕ → Misplaced → Type 0
 IsMisplaced area at alignment count Unaligned = at % alignment ≢ 0
 IsMisplaced area at alignment count Outside = (at % alignment ≡ 0) × (lies_in area at count ≡ false)
 IsMisplaced area at alignment count OverIob = (at % alignment ≡ 0) × (lies_in area at count ≡ true)
 
--- the IOB at a place of the area is refused for this
+-- the IOB at an address of the area is refused for this
 abbrev pub IsSo : ℕ → Storage → RequestRefusal → Type 0
 IsSo iob area (Iob m) = IsMisplaced area iob 4 40 m
 IsSo iob area (Ecb at m) = (at ≡ (iob_at area iob).ecb) × IsMisplaced area at 4 4 m

@@ -9,11 +9,11 @@ use Rattle.request_piece.specs.declared.piece.Name.{Name}
 use Rattle.request_piece.specs.declared.piece.Piece.{Piece}
 use Rattle.request_piece.specs.Places.{is_ecb_place, is_iob_place, is_program_place}
 
--- the IOB at a place of the area
+-- the IOB at an address of the area
 abbrev pub iob_at : Storage → ℕ → Iob
 iob_at area iob = iob_of (bytes_at area iob 40)
 
--- the image of an IOB at a place of the area
+-- the image of an IOB at an address of the area
 pub record IsImageAt (area : Storage) (iob : ℕ) (image : List ℕ) : Type 0 where
   pub lies : lies_in area iob 40 ≡ true
   pub bytes : image ≡ bytes_at area iob 40
@@ -36,7 +36,7 @@ piece_of name unit dcb iob area image = record {
 abbrev pub request_of : Name → ℕ → ℕ → ℕ → Storage → Piece
 request_of name unit dcb iob area = piece_of name unit dcb iob area (iob_at area iob)
 
--- the IOB, the ECB and the channel program have their places, and the IOB names the DCB
+-- the IOB, the ECB and the channel program are at valid addresses, and the IOB names the DCB
 pub record NoFault (dcb iob : ℕ) (area : Storage) : Type 0 where
   pub iob_place : is_iob_place area iob ≡ true
   pub ecb_place : is_ecb_place area iob (iob_at area iob).ecb ≡ true

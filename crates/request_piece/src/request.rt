@@ -259,7 +259,7 @@ fn set_fields(piece: &mut Piece, name: Name, unit: u16, dcb: u16, iob: u32, imag
     piece.ecb = image.ecb.get();
 }
 
-/// The IOB at a place of the area, if it, its ECB and its channel program have their places and it names the DCB.
+/// The IOB at an address of the area, if it, its ECB and its channel program are at valid addresses and it names the DCB.
 #[inline(always)]
 pub(crate) fn read_iob(dcb: u16, iob: u32, area: &Area) -> Result<Iob, RequestError>
     ensures iob { IfOk result (λ i. i ≡ iob_at area.now iob) }

@@ -8,7 +8,7 @@ mod task_event;
 mod task_notes;
 mod task_record;
 
-pub use run::{Room, Run, UnitRecord};
+pub use run::{MediumCapacity, Run, UnitRecord};
 pub use task_event::TaskEvent;
 pub use task_notes::TaskNotes;
-pub use task_record::{Ended, TaskRecord};
+pub use task_record::{EndedRequest, TaskRecord};

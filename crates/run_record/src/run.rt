@@ -27,10 +27,10 @@ pub struct UnitRecord<'a> {
     pub book: &'a UnitBook<AnyDevice>,
     /// The faults that its device was to meet.
     pub faults: &'a [Fault],
-    /// The room of its medium, where its device does not tell it, if that is known.
-    pub room: Option<Room>,
-    /// The place of each entry in the one order of the entries of all units, if the run has one. An entry from before its
-    /// first event has the place 0.
+    /// The capacity of its medium, if it is known and its device does not report it.
+    pub room: Option<MediumCapacity>,
+    /// The position of each entry in the one order of the entries of all units, if the run has one. An entry from before its
+    /// first event has the position 0.
     pub places: Option<&'a [usize]>,
 }
 
@@ -40,15 +40,15 @@ impl<'a> UnitRecord<'a> {
         self.book.mounted().kind()
     }
 
-    /// The place of its entry with this number in the order of all units, if there is one.
+    /// The position of its entry with this number in the order of all units, if there is one.
     pub fn place_of(&self, entry: usize) -> Option<usize> {
         self.places?.get(entry.checked_sub(1)?).copied()
     }
 }
 
-/// The room of a medium.
+/// The capacity of a medium.
 #[derive(Clone, Copy)]
-pub enum Room {
+pub enum MediumCapacity {
     Tape { bytes: u64 },
     Printer { lines: u64, pages: u64 },
 }

@@ -5,7 +5,7 @@ ghost use Rattle.std.specs.Option.{option_copied};
 ghost use Rattle.post_lines.specs.Slots.{expected, filled};
 
 use crate::task_event::TaskEvent;
-use post_lines::{Slot, Slots};
+use post_lines::{PostSlot, Slots};
 use request_piece::Posted;
 use std::alloc::{AllocError, Global};
 
@@ -18,7 +18,7 @@ const IOB_LEN: usize = 40;
 pub struct TaskNotes {
     iobs: Slots,
     events: Vec<TaskEvent>,
-    /// How many of the events happened. The others are room.
+    /// How many of the events happened. The others are reserved.
     happened: usize,
     ghost few: { happened ≤ vec_len events },
 }
@@ -100,7 +100,7 @@ impl TaskNotes {
     }
 
     /// The slot of the IOB of its request with this number to a unit.
-    pub fn iob(&self, unit: usize, number: usize) -> Option<&Slot>
+    pub fn iob(&self, unit: usize, number: usize) -> Option<&PostSlot>
         ensures { option_copied result ≡ iob_slot self.now unit number }
     {
         self.iobs.get(unit, number)

@@ -6,16 +6,16 @@ ghost use Rattle.run_record.specs.Record.{EndsAs, KeepsEvents, NotesEvent, event
 
 use crate::task_event::TaskEvent;
 use crate::task_notes::TaskNotes;
-use post_lines::{End, Slot, Slots};
+use post_lines::{End, PostSlot, Slots};
 use request_piece::Posted;
 use std::alloc::{AllocError, Global};
 
 /// How a request ended, with its shown bytes and the slot of its IOB.
 #[derive(Clone, Copy)]
-pub struct Ended<'a> {
+pub struct EndedRequest<'a> {
     pub end: End,
     pub shown: &'a [u8],
-    pub iob: &'a Slot,
+    pub iob: &'a PostSlot,
 }
 
 /// What a task did: the posts of its requests, and what reports tell beside them.
@@ -84,11 +84,11 @@ impl TaskRecord {
     }
 
     /// How its request with this number to a unit ended, if it was posted.
-    pub fn ended(&self, unit: usize, number: usize) -> Option<Ended<'_>>
+    pub fn ended(&self, unit: usize, number: usize) -> Option<EndedRequest<'_>>
         ensures { EndsAs self.now unit number result }
     {
         let slot = self.slots.get(unit, number)?;
-        Some(Ended {
+        Some(EndedRequest {
             end: slot.end()?,
             shown: slot.shown(),
             iob: self.notes.iob(unit, number)?,

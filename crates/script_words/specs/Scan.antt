@@ -7,11 +7,11 @@ use Rattle.script_words.specs.Text.{is_space, words}
 abbrev pub is_word_byte : ℕ → Bool
 is_word_byte byte = not (byte == 32)
 
--- the bytes from one place up to another
+-- the bytes from one offset up to another
 abbrev pub piece : List ℕ → ℕ → ℕ → List ℕ
 piece text start end = take (end - start) (drop start text)
 
--- the places where each of the first eight words begins and ends
+-- the offsets where each of the first eight words begins and ends
 pub record Keeps (text starts ends : List ℕ) (found : List (List ℕ)) (place : ℕ) : Type 0 where
   pub begins : length starts ≡ 8
   pub stops : length ends ≡ 8
@@ -19,7 +19,7 @@ pub record Keeps (text starts ends : List ℕ) (found : List (List ℕ)) (place 
   pub order : (k : ℕ) → k < 8 → k < length found → get_or starts k 0 ≤ get_or ends k 0
   pub inside : (k : ℕ) → k < 8 → k < length found → get_or ends k 0 ≤ place
 
--- the bytes before a place are the words found, and then the bytes from start on
+-- the bytes before an offset are the words found, and then the bytes from start on
 pub record Scanned (text starts ends : List ℕ) (count start place : ℕ) : Type 0 where
   pub found : List (List ℕ)
   pub split : (tail : List ℕ) → words (take place text ++ tail) ≡ found ++ words (piece text start place ++ tail)
@@ -28,7 +28,7 @@ pub record Scanned (text starts ends : List ℕ) (count start place : ℕ) : Typ
   pub before : start ≤ place
   pub word : All (λ byte. is_space byte ≡ false) (piece text start place)
 
--- the bytes before a place are `count` words
+-- the bytes before an offset are `count` words
 pub record Closed (text starts ends : List ℕ) (count place : ℕ) : Type 0 where
   pub counted : length (words (take place text)) ≡ count
   pub kept : Keeps text starts ends (words (take place text)) place

@@ -18,4 +18,4 @@ pub use forms::{
 };
 pub use front::{after_name, decimal_in_until, decimal_until, hexadecimal_until};
 pub use text::{after_words, is_word, next_word};
-pub use words::Words;
+pub use words::LineWords;

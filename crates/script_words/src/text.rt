@@ -18,7 +18,7 @@ fn spaces(line: &[u8]) -> usize
     line.len()
 }
 
-/// The place of the first space of a line, and its length if it has none.
+/// The offset of the first space of a line, and its length if it has none.
 fn word_end(line: &[u8]) -> usize
     ensures { result ≡ position_or_len is_space line.now }
 {

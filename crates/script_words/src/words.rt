@@ -1,12 +1,12 @@
-//! A line and the places of its words, found in one pass over its bytes.
+//! A line and the offsets of its words, found in one pass over its bytes.
 
 ghost use Rattle.std.specs.Prelude.{◌≡◌, ◌<◌, ◌≤◌, ◌+◌, ◌∷◌, [], drop, get_or, length, option_copied, take};
 ghost use Rattle.script_words.specs.Scan.{Closed, Scanned};
 ghost use Rattle.script_words.specs.Text.{bytes_left, is_printable, lines, lines_left, words};
 
-/// A line and the places of its first eight words. One value serves all lines of a text, one after the other.
+/// A line and the offsets of its first eight words. One value serves all lines of a text, one after the other.
 #[derive(Clone, Copy)]
-pub struct Words<'a> {
+pub struct LineWords<'a> {
     /// The bytes of the line, without its line feed.
     pub line: &'a [u8],
     places: Places,
@@ -16,7 +16,7 @@ pub struct Words<'a> {
     ghost bytes: { printable ≡ is_printable line.now },
 }
 
-impl<'a> Words<'a> {
+impl<'a> LineWords<'a> {
     /// An empty line.
     pub fn new() -> Self
         ensures { result.line.now ≡ [] }
@@ -25,7 +25,7 @@ impl<'a> Words<'a> {
             starts: [0; 8],
             ends: [0; 8],
         };
-        Words {
+        LineWords {
             line: &[],
             places,
             count: 0,
@@ -101,7 +101,7 @@ impl<'a> Words<'a> {
     }
 }
 
-/// The places of the first eight words.
+/// The offsets of the first eight words.
 #[derive(Clone, Copy)]
 struct Places {
     starts: [usize; 8],
@@ -109,7 +109,7 @@ struct Places {
 }
 
 impl Places {
-    /// Ends the word that begins at `start` before this place, if it has a byte. Returns how many words there are then.
+    /// Ends the word that begins at `start` before this offset, if it has a byte. Returns how many words there are then.
     #[inline(always)]
     fn close(&mut self, text: &[u8], count: usize, start: usize, place: usize) -> usize
         requires scanned { Scanned text.now self.old.starts self.old.ends count start place }

@@ -52,7 +52,7 @@ module _ {D : Type 0} (meaning : Meaning D) (mounted : D) where
   abbrev pub served_in_order : List Entry → List PostedState
   served_in_order H = one_at_a_time meaning mounted (openings H) (arrivals H)
 
--- the request at a place comes after a related one to its DCB that ended in error: of these requests and their posted values
+-- the request at an index comes after a related one to its DCB that ended in error: of these requests and their posted values
 pub record FollowsError (rs : List Piece) (vs : List PostedState) (at : ℕ) (r : Piece) : Type 0 where
   pub earlier : ℕ
   pub before : earlier < at

@@ -6,7 +6,7 @@ use native.Mathlib.Decide.{dec_le}
 use lib.ListN.{get_elem?}
 use Rattle.crossbeam_queue.specs.Fifo.{Forks, Merges, Learns}
 use Rattle.crossbeam_queue.proofs.Lists.{at_set}
-use Rattle.signed_list.specs.declared.view.View.{View}
+use Rattle.signed_list.specs.declared.view.ListView.{ListView}
 use Rattle.signed_list.specs.Signed.{signed_by}
 use Rattle.signed_list.specs.Views.{list_view, pen_view, both_view, spent_view, opening_view}
 use Rattle.signed_list.specs.Rule.{FitsPen, FitsList, PassFits, Fair, Kept, Agrees, OfPens}
@@ -25,11 +25,11 @@ module _ {I : Type 0} where
   spent_fits : (keeper : ℕ) (seat : ℕ → Option ℕ) (all : List (ℕ × I)) (pass : ℕ) → PassFits keeper seat all pass spent_view
   spent_fits keeper seat all pass = record { as_pen = λ p. off p; as_list = λ p. off p }
 
-  apart : (seat : ℕ → Option ℕ) (all : List (ℕ × I)) (pass number j : ℕ) (u : View I) → seat number ≡ Some pass →
+  apart : (seat : ℕ → Option ℕ) (all : List (ℕ × I)) (pass number j : ℕ) (u : ListView I) → seat number ≡ Some pass →
       FitsPen seat all j u → j ≢ pass → u.number ≢ number
   apart seat all pass number j u here fits ne same = ne (some_is j pass (sym fits.here ∙ (ap seat same ∙ here)))
 
-  one_view : (v u : View I) (j : ℕ) → get_elem? (v ∷ []) j ≡ some u → (j ≡ 0) × (v ≡ u)
+  one_view : (v u : ListView I) (j : ℕ) → get_elem? (v ∷ []) j ≡ some u → (j ≡ 0) × (v ≡ u)
   one_view v u zero e = (refl, some-injective v u e)
   one_view v u (suc j) e = absurd (some-ne-none u (sym e))
 
@@ -42,12 +42,12 @@ module _ {I : Type 0} where
     all = [];
     fair = λ j u e.
         let at = one_view opening_view u j e in
-        subst (λ (y : ℕ × View I). PassFits 0 (λ k. None) [] y.0 y.1) (λ i. (sym at.0 i, at.1 i))
+        subst (λ (y : ℕ × ListView I). PassFits 0 (λ k. None) [] y.0 y.1) (λ i. (sym at.0 i, at.1 i))
         (as_list 0 (λ k. None) [] 0 0 [] (record { here = refl; all_is = refl; later = λ k _. (refl, refl) }));
   }
 
   -- the list makes a pen
-  module _ (keeper : ℕ) (seat : ℕ → Option ℕ) (all : List (ℕ × I)) (views : List (View I)) (pass made : ℕ) (mine : List (ℕ × I))
+  module _ (keeper : ℕ) (seat : ℕ → Option ℕ) (all : List (ℕ × I)) (views : List (ListView I)) (pass made : ℕ) (mine : List (ℕ × I))
       (fits : FitsList keeper seat all pass (list_view made mine)) where
     abbrev made_seats : ℕ → Option ℕ
     made_seats = seat_with seat made (Some (length views))
@@ -61,7 +61,7 @@ module _ {I : Type 0} where
           (seat-other seat made (Some (length views)) k (λ s. omega (arith, s, h)) ∙ l.0, l.1);
     }
 
-    made_others : (j : ℕ) (u : View I) → j ≢ pass → PassFits keeper seat all j u → PassFits keeper made_seats all j u
+    made_others : (j : ℕ) (u : ListView I) → j ≢ pass → PassFits keeper seat all j u → PassFits keeper made_seats all j u
     made_others j u ne old = record {
       as_pen = λ p.
           let s = old.as_pen p in
@@ -87,9 +87,10 @@ module _ {I : Type 0} where
         fair = made_fair h.keeper h.seat h.all views pass made mine fits h.fair;
       }
 
-  pub makes_as : (pass : ℕ) (v : View I) → v ≡ list_view v.made [] → Forks Kept pass v (list_view (v.made + 1) v.all) (pen_view v.made [])
+  pub makes_as : (pass : ℕ) (v : ListView I) → v ≡ list_view v.made [] →
+      Forks Kept pass v (list_view (v.made + 1) v.all) (pen_view v.made [])
   makes_as pass v is =
-      subst (λ (u : View I). Forks Kept pass u (list_view (u.made + 1) u.all) (pen_view u.made [])) (sym is) (makes pass v.made [])
+      subst (λ (u : ListView I). Forks Kept pass u (list_view (u.made + 1) u.all) (pen_view u.made [])) (sym is) (makes pass v.made [])
 
   -- the list takes up a pen
   module _ (keeper : ℕ) (seat : ℕ → Option ℕ) (all : List (ℕ × I)) (pass made : ℕ) (mine : List (ℕ × I)) (other number : ℕ) (signed : List I)
@@ -112,7 +113,7 @@ module _ {I : Type 0} where
       };
     }
 
-    up_others : (j : ℕ) (u : View I) → j ≢ pass → PassFits keeper seat all j u → j ≢ other → PassFits keeper up_seats all j u
+    up_others : (j : ℕ) (u : ListView I) → j ≢ pass → PassFits keeper seat all j u → j ≢ other → PassFits keeper up_seats all j u
     up_others j u ne old away = record {
       as_pen = λ p.
           let s = old.as_pen p in
@@ -123,12 +124,12 @@ module _ {I : Type 0} where
       as_list = λ p. absurd (ne ((old.as_list p).here ∙ sym fits.here));
     }
 
-    up_fair : (views : List (View I)) → Fair keeper seat all views →
+    up_fair : (views : List (ListView I)) → Fair keeper seat all views →
         Fair keeper up_seats all (set (set views pass (both_view made mine number signed)) other spent_view)
     up_fair views f =
-        let both : View I = both_view made mine number signed in
-        let unless_spent : ℕ → View I → Type 0 = λ j u. j ≢ other → PassFits keeper up_seats all j u in
-        let first : (j : ℕ) (u : View I) → get_elem? (set views pass both) j ≡ some u → unless_spent j u =
+        let both : ListView I = both_view made mine number signed in
+        let unless_spent : ℕ → ListView I → Type 0 = λ j u. j ≢ other → PassFits keeper up_seats all j u in
+        let first : (j : ℕ) (u : ListView I) → get_elem? (set views pass both) j ≡ some u → unless_spent j u =
         all_set unless_spent views pass both (λ _. up_both) (λ j u ne e away. up_others j u ne (f j u e) away) in
         all_set (PassFits keeper up_seats all) (set views pass both) other spent_view (spent_fits keeper up_seats all other)
         (λ j u ne e. first j u e ne)
@@ -136,7 +137,7 @@ module _ {I : Type 0} where
   takes_up : (pass made : ℕ) (mine : List (ℕ × I)) (other number : ℕ) (signed : List I) →
       Merges Kept pass (list_view made mine) other (pen_view number signed) (both_view made mine number signed) spent_view
   takes_up pass made mine other number signed items views h at apart' at' =
-      let both : View I = both_view made mine number signed in
+      let both : ListView I = both_view made mine number signed in
       let was : get_elem? views other ≡ some (pen_view number signed) =
       ⊎_elim (λ x. absurd (apart' x.0)) (λ x. x.1) (at_set views pass other both (pen_view number signed) at') in
       let fits = (h.fair pass (list_view made mine) at).as_list refl in
@@ -148,10 +149,10 @@ module _ {I : Type 0} where
         fair = up_fair h.keeper h.seat h.all pass made mine other number signed fits theirs views h.fair;
       }
 
-  pub takes_up_as : (pass : ℕ) (v : View I) (other : ℕ) (u : View I) → v ≡ list_view v.made v.all → u ≡ pen_view u.number u.mine →
+  pub takes_up_as : (pass : ℕ) (v : ListView I) (other : ℕ) (u : ListView I) → v ≡ list_view v.made v.all → u ≡ pen_view u.number u.mine →
       Merges Kept pass v other u (both_view v.made v.all u.number u.mine) spent_view
   takes_up_as pass v other u is is' =
-      subst (λ (p : View I × View I). Merges Kept pass p.0 other p.1 (both_view p.0.made p.0.all p.1.number p.1.mine) spent_view)
+      subst (λ (p : ListView I × ListView I). Merges Kept pass p.0 other p.1 (both_view p.0.made p.0.all p.1.number p.1.mine) spent_view)
       (λ i. (sym is i, sym is' i)) (takes_up pass v.made v.all other u.number u.mine)
 
   -- what the list learns of the pen in its hand
@@ -161,12 +162,13 @@ module _ {I : Type 0} where
       let f = h.fair pass (both_view made mine number signed) at in
       ap (signed_by number) ((f.as_list refl).all_is) ∙ (f.as_pen refl).mine_is
 
-  pub agrees_as : (pass : ℕ) (v : View I) → v ≡ both_view v.made v.all v.number v.mine → Learns Kept pass v (Agrees v)
-  agrees_as pass v is = subst (λ (u : View I). Learns Kept pass u (Agrees u)) (sym is) (agrees pass v.made v.all v.number v.mine)
+  pub agrees_as : (pass : ℕ) (v : ListView I) → v ≡ both_view v.made v.all v.number v.mine → Learns Kept pass v (Agrees v)
+  agrees_as pass v is = subst (λ (u : ListView I). Learns Kept pass u (Agrees u)) (sym is) (agrees pass v.made v.all v.number v.mine)
 
   -- the list puts the pen down, which may have signed
-  module _ (keeper : ℕ) (seat : ℕ → Option ℕ) (all : List (ℕ × I)) (views : List (View I)) (pass made : ℕ) (mine : List (ℕ × I)) (number : ℕ)
-      (signed : List I) (fits : PassFits keeper seat all pass (both_view made mine number signed)) (after : List (ℕ × I)) (now : List I)
+  module _ (keeper : ℕ) (seat : ℕ → Option ℕ) (all : List (ℕ × I)) (views : List (ListView I)) (pass made : ℕ)
+      (mine : List (ℕ × I)) (number : ℕ) (signed : List I)
+      (fits : PassFits keeper seat all pass (both_view made mine number signed)) (after : List (ℕ × I)) (now : List I)
       (own : signed_by number after ≡ now) (rest : (k : ℕ) → k ≢ number → signed_by k after ≡ signed_by k mine) where
     abbrev down_seats : ℕ → Option ℕ
     down_seats = seat_with seat number (Some (length views))
@@ -193,7 +195,7 @@ module _ {I : Type 0} where
           (seat-other seat number (Some (length views)) k ne ∙ l.0, same k ne ∙ l.1);
     }
 
-    down_others : (j : ℕ) (u : View I) → j ≢ pass → PassFits keeper seat all j u → PassFits keeper down_seats after j u
+    down_others : (j : ℕ) (u : ListView I) → j ≢ pass → PassFits keeper seat all j u → PassFits keeper down_seats after j u
     down_others j u ne old = record {
       as_pen = λ p.
           let s = old.as_pen p in
@@ -225,22 +227,22 @@ module _ {I : Type 0} where
         fair = down_fair h.keeper h.seat h.all views pass made mine number signed fits after now (own was) rest h.fair;
       }
 
-  pub puts_down_as : (pass : ℕ) (v : View I) (after : List (ℕ × I)) (now : List I) → v ≡ both_view v.made v.all v.number v.mine →
+  pub puts_down_as : (pass : ℕ) (v : ListView I) (after : List (ℕ × I)) (now : List I) → v ≡ both_view v.made v.all v.number v.mine →
       (signed_by v.number v.all ≡ v.mine → signed_by v.number after ≡ now) → ((k : ℕ) → k ≢ v.number → signed_by k after ≡ signed_by k v.all)
       → Forks Kept pass v (list_view v.made after) (pen_view v.number now)
   puts_down_as pass v after now is own rest =
-      subst (λ (u : View I). Forks Kept pass u (list_view v.made after) (pen_view v.number now)) (sym is)
+      subst (λ (u : ListView I). Forks Kept pass u (list_view v.made after) (pen_view v.number now)) (sym is)
       (puts_down pass v.made v.all v.number v.mine after now own rest)
 
   -- a view that holds a pen, by its own words
-  pub is_both : (v : View I) (made : ℕ) (all : List (ℕ × I)) (number : ℕ) (mine : List I) → v ≡ both_view made all number mine →
+  pub is_both : (v : ListView I) (made : ℕ) (all : List (ℕ × I)) (number : ℕ) (mine : List I) → v ≡ both_view made all number mine →
       v ≡ both_view v.made v.all v.number v.mine
-  is_both v made all number mine e = e ∙ sym (ap (λ (w : View I). both_view w.made w.all w.number w.mine) e)
+  is_both v made all number mine e = e ∙ sym (ap (λ (w : ListView I). both_view w.made w.all w.number w.mine) e)
 
   of_pens : (pass made : ℕ) (mine : List (ℕ × I)) → Learns Kept pass (list_view made mine) (OfPens (list_view made mine))
   of_pens pass made mine items views h at k later =
       let f = (h.fair pass (list_view made mine) at).as_list refl in
       ap (signed_by k) f.all_is ∙ (f.later k later).1
 
-  pub of_pens_as : (pass : ℕ) (v : View I) → v ≡ list_view v.made v.all → Learns Kept pass v (OfPens v)
-  of_pens_as pass v is = subst (λ (u : View I). Learns Kept pass u (OfPens u)) (sym is) (of_pens pass v.made v.all)
+  pub of_pens_as : (pass : ℕ) (v : ListView I) → v ≡ list_view v.made v.all → Learns Kept pass v (OfPens v)
+  of_pens_as pass v is = subst (λ (u : ListView I). Learns Kept pass u (OfPens u)) (sym is) (of_pens pass v.made v.all)

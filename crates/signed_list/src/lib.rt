@@ -11,4 +11,4 @@ mod rule;
 mod view;
 
 pub use register::{Pen, Register, SignedList};
-pub use view::View;
+pub use view::ListView;

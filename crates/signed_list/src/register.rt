@@ -5,7 +5,7 @@ ghost use Rattle.signed_list.specs.Signed.{RegisterEnds, signed_by};
 ghost use Rattle.signed_list.specs.Views.{known, opening_view, list_view, pen_view};
 
 use crate::rule::{Naming, PutDown, Queue, Seat, Sign, TakeUp};
-use crate::view::View;
+use crate::view::ListView;
 use crossbeam_queue::Pass;
 use std::alloc::{AllocError, Global};
 use std::marker::{Brand, Model};
@@ -14,7 +14,7 @@ use std::marker::{Brand, Model};
 #[derive(Drop)]
 pub struct Register<I> {
     queue: Queue<I>,
-    first: Option<Pass<u8, View<I>>>,
+    first: Option<Pass<u8, ListView<I>>>,
     alloc: Global,
     pens: u16,
 }
@@ -36,7 +36,7 @@ impl<I> Model for Register<I> {
 #[derive(Drop)]
 pub struct Pen<'r, I> {
     queue: &'r Queue<I>,
-    pass: Option<Pass<u8, View<I>>>,
+    pass: Option<Pass<u8, ListView<I>>>,
     number: u16,
 }
 
@@ -56,7 +56,7 @@ impl<'r, I> Model for Pen<'r, I> {
 #[derive(Drop)]
 pub struct SignedList<'r, I> {
     queue: &'r Queue<I>,
-    pass: Pass<u8, View<I>>,
+    pass: Pass<u8, ListView<I>>,
 }
 
 impl<'r, I> Model for SignedList<'r, I> {
@@ -106,7 +106,7 @@ impl<I> Register<I> {
 fn seat_all<'r, I>(
     alloc: Global,
     queue: &'r Queue<I>,
-    mut pass: Pass<u8, View<I>>,
+    mut pass: Pass<u8, ListView<I>>,
     pens: u16,
 ) -> Result<(Vec<Pen<'r, I>>, SignedList<'r, I>), AllocError>
     requires { IsPassOf queue.now pass × (known pass ≡ opening_view) }
@@ -126,7 +126,7 @@ fn seat_all<'r, I>(
 }
 
 /// Makes the next pen of a register, in which nothing was signed.
-fn seat_next<I>(queue: &Queue<I>, pass: &mut Pass<u8, View<I>>) -> Pass<u8, View<I>>
+fn seat_next<I>(queue: &Queue<I>, pass: &mut Pass<u8, ListView<I>>) -> Pass<u8, ListView<I>>
     requires { IsPassOf queue.now pass.old × (known pass.old ≡ list_view (known pass.old).made []) }
     ensures list { IsPassOf queue.now pass.new × (known pass.new ≡ list_view ((known pass.old).made + 1) []) }
     ensures pen { IsPassOf queue.now result × (known result ≡ pen_view (known pass.old).made []) }
@@ -174,10 +174,10 @@ impl<'r, I> SignedList<'r, I> {
 /// Takes up a pen, signs an item with it, and puts it down.
 fn sign_as<I, L: Naming<I>>(
     queue: &Queue<I>,
-    pass: &mut Pass<u8, View<I>>,
-    theirs: Pass<u8, View<I>>,
+    pass: &mut Pass<u8, ListView<I>>,
+    theirs: Pass<u8, ListView<I>>,
     item: &I,
-) -> Pass<u8, View<I>>
+) -> Pass<u8, ListView<I>>
     requires item { L.item ≡ item.now ∷ [] }
     requires list { IsPassOf queue.now pass.old × (known pass.old ≡ list_view (known pass.old).made (known pass.old).all) }
     requires pen { IsPassOf queue.now theirs × (known theirs ≡ pen_view (known theirs).number (known theirs).mine) }
@@ -194,9 +194,9 @@ fn sign_as<I, L: Naming<I>>(
 /// Takes up a pen, and puts it down.
 fn audit_as<I>(
     queue: &Queue<I>,
-    pass: &mut Pass<u8, View<I>>,
-    theirs: Pass<u8, View<I>>,
-) -> Pass<u8, View<I>>
+    pass: &mut Pass<u8, ListView<I>>,
+    theirs: Pass<u8, ListView<I>>,
+) -> Pass<u8, ListView<I>>
     requires list { IsPassOf queue.now pass.old × (known pass.old ≡ list_view (known pass.old).made (known pass.old).all) }
     requires pen { IsPassOf queue.now theirs × (known theirs ≡ pen_view (known theirs).number (known theirs).mine) }
     ensures list { IsPassOf queue.now pass.new × (known pass.new ≡ known pass.old) }

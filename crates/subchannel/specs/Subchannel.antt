@@ -37,12 +37,14 @@ ssch_code Idle = 0
 ssch_code (Running place) = 2
 ssch_code (Pending status) = 1
 
+-- the condition code of HSCH
 abbrev pub hsch_code : Phase → ℕ
 hsch_code Absent = 3
 hsch_code Idle = 0
 hsch_code (Running place) = 0
 hsch_code (Pending status) = 1
 
+-- the condition code of TSCH
 abbrev pub tsch_code : Phase → ℕ
 tsch_code Absent = 3
 tsch_code Idle = 1
@@ -63,15 +65,18 @@ place_of Idle = None
 place_of (Running place) = Some place
 place_of (Pending status) = None
 
+-- what TSCH stores: the CSW and the sense
 abbrev pub stored_pair : Status → Csw × ℕ
 stored_pair status = (status.csw, status.sense)
 
+-- the phase after TSCH, which clears a pending status
 abbrev pub tested_phase : Phase → Phase
 tested_phase Absent = Absent
 tested_phase Idle = Idle
 tested_phase (Running place) = Running place
 tested_phase (Pending status) = Idle
 
+-- whether a status is pending
 abbrev pub is_pending : Phase → Bool
 is_pending Absent = false
 is_pending Idle = false
@@ -85,7 +90,7 @@ halted_phase Idle = Pending empty_status
 halted_phase (Running place) = Pending (record { csw = halted place; sense = 0 })
 halted_phase (Pending status) = Pending status
 
--- the phase of a program at a place
+-- the phase of a program at a position
 abbrev pub phase_of : Place → State → Phase
 phase_of place state.Running = Running place
 phase_of place (state.Ended csw sense) = Pending (record { csw = csw; sense = sense })
@@ -96,6 +101,7 @@ TakesSeek meaning None seek = Unit {0}
 TakesSeek meaning (Some d) seek = fits meaning d seek ≡ true
 
 module _ {D : Type 0} (meaning : Meaning D) where
+  -- the device after a seek and a file mask, if there is a device
   abbrev pub prefixed : Option D → Seek → ℕ → Option D
   prefixed None seek mask = None
   prefixed (Some d) seek mask = Some (meaning.prefix d seek mask)

@@ -3,6 +3,7 @@
 use Rattle.std.specs.Prelude.{◌≡◌, ◌-◌, ◌^◌, ℕ, length, min}
 use Rattle.excp_system.specs.States.{TaskState, sent_count}
 
+-- the counts of a client are those of its task
 pub record HasCounted (t : TaskState) (issued collected : ℕ) : Type 0 where
   pub issued_is : issued ≡ sent_count t
   pub collected_is : collected ≡ min (length t.got) (2 ^ 64 - 1)

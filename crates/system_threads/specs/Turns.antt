@@ -15,6 +15,6 @@ call_number Deliver = 4
 abbrev pub place_at : ℕ → Point → ℕ
 place_at unit call = unit * 5 + call_number call
 
--- no other call and no other unit has this place
+-- no other call and no other unit has this index
 abbrev pub IsOwnPlace : ℕ → Point → ℕ → Type 0
 IsOwnPlace unit point place = (other : ℕ) (call : Point) → place_at other call ≡ place → (other ≡ unit) × (call ≡ point)

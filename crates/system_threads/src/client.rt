@@ -3,7 +3,7 @@
 ghost use Rattle.std.specs.Prelude.{◌≡◌, ◌<◌, ◌≤◌, ◌-◌, ◌^◌, length, IfErr, IfNone, IfOk, IfSome, OnErr, OnOk};
 ghost use Rattle.std.specs.Arc.{arc_value};
 ghost use Rattle.request_piece.specs.Requests.{request_of};
-ghost use Rattle.excp_system.specs.Controls.{ControlLacks, ControlRefused, ControlsBook};
+ghost use Rattle.unit_book.specs.Steps.{ControlLacks, ControlRefused, ControlsBook};
 ghost use Rattle.excp_system.specs.Notices.{Notifies, became_pending};
 ghost use Rattle.excp_system.specs.Calls.{Asks, TaskCollects, IntakeWasFull, Issues, PostRowWasEmpty, next_name};
 ghost use Rattle.excp_system.specs.States.{awaited_count, sent_by};
@@ -14,7 +14,7 @@ use crate::alarm::Alarm;
 use crossbeam_utils::Backoff;
 use crossbeam_utils::sync::{Parker, Unparker};
 use device_port::Device;
-use excp_system::{Control, Controlling, Opened, Site, Task, UnitState};
+use excp_system::{Opened, Site, Task, UnitState};
 use fifo_row::Full;
 use io_area::Area;
 use request_piece::{Name, Posted, Request, RequestError};
@@ -22,7 +22,7 @@ use std::alloc::{AllocError, Global};
 use std::marker::Model;
 use std::sync::{Arc, Wait};
 use thiserror::Error;
-use unit_book::DcbError;
+use unit_book::{Control, Controlling, DcbError};
 
 /// Why a request is not issued.
 #[derive(Clone, Copy, PartialEq, Eq, Debug, Error)]

@@ -16,8 +16,7 @@ const MOST_UNITS: usize = 64;
 /// How many calls a worker makes.
 const POINTS: usize = 5;
 
-/// What is counted of one call on one unit: in how many turns in a row it ran out of memory, and whether it is made
-/// again since.
+/// Consecutive turns in which one call on one unit ran out of memory, and whether the call was made again since.
 #[derive(Clone, Copy)]
 struct Count {
     turns: u32,
@@ -119,7 +118,7 @@ impl Refusals {
     }
 }
 
-/// The place of a call on a unit, which no other call and no other unit has. So memory for one call does not hide that
+/// The index of a call on a unit, which no other call and no other unit has. So memory for one call does not hide that
 /// another has none.
 fn place_of(unit: u16, point: Point) -> usize
     ensures place { result ≡ place_at unit point }

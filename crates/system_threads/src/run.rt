@@ -27,8 +27,8 @@ use unit_book::UnitBook;
 const MOST_TASKS: usize = 64;
 
 /// Runs the tasks of a system of these rows and books by a program, beside these workers, and brings the run to its
-/// end. Returns the report of the run, which holds all posts that the tasks have not collected. With it, in order of
-/// tasks, it returns what each has left behind. The report accounts for what these tasks did. The purges, closes and
+/// end. Returns the report of the run, which holds all posts that the tasks have not collected. Also returns the outcome
+/// of each task, in order. The report accounts for what these tasks did. The purges, closes and
 /// resets of each unit are those that the tasks asked of it, but for those that made no entry. Each of its books continues
 /// the one that was handed in for its unit, on the same device as it was mounted.
 ///
@@ -117,7 +117,7 @@ fn crew_of<'r, S: Site>(
     Crew::new(alloc, units, takers, workers)
 }
 
-/// Runs all tasks by the program beside the workers, which end with them. Returns the tasks, and what each has left behind.
+/// Runs the program for all tasks while the workers run. Stops the workers once the tasks have ended. Returns the tasks and their outcomes.
 fn run_tasks<
     'r,
     S: Opened<D> + Send + Sync,

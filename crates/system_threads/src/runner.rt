@@ -8,7 +8,7 @@ use crate::client::Client;
 use excp_system::{Site, Task};
 use std::alloc::{AllocError, Global};
 
-/// The client of a task, and what the task has left behind when it has ended.
+/// The client of a task, and the outcome of the task when it has ended.
 #[derive(Drop)]
 pub struct Runner<'r, S: Site, O> {
     pub client: Client<'r, S>,
@@ -63,8 +63,7 @@ impl<'r, S: Site, O: Drop> PartsRoom<'r, S, O> {
     }
 }
 
-/// The tasks of runners whose programs have ended, and what each has left behind, both in the order of the runners. It
-/// takes no memory.
+/// The tasks and the outcomes of runners whose programs have ended, both in the order of the runners. Never allocates.
 pub fn parted<'r, S: Site, O: Drop>(
     runners: Vec<Runner<'r, S, O>>,
     room: PartsRoom<'r, S, O>,

@@ -16,7 +16,7 @@ use std::sync::Wait;
 /// the task stops collecting, or ends. A unit sends its posts in order, so its next post to the full row holds back all
 /// later ones, and other tasks wait for theirs for ever.
 pub trait TaskProgram<D: Device>: Sync {
-    /// What a task leaves behind when it has ended.
+    /// The outcome of a task when it has ended.
     type Outcome: Send + Drop;
 
     ghost use Rattle.excp_system.specs.States.{TaskState};
@@ -24,7 +24,7 @@ pub trait TaskProgram<D: Device>: Sync {
     // the number of units that it is written for
     ghost units: { Self → ℕ };
 
-    // what a task does: what it has sent, asked and collected before and after its run, and what it leaves behind
+    // what a task does: what it has sent, asked and collected before and after its run, and its outcome
     ghost runs: { Self → TaskState → TaskState → Self.Outcome → Type 0 };
 
     /// Runs a task to its end. By the client it issues requests and collects their posts. It purges, closes and resets by

@@ -4,7 +4,7 @@ use Rattle.device_port.specs.declared.kind.Flow.{Flow}
 use Rattle.device_port.specs.declared.kind.Flow.TheVariants as flow
 use Rattle.tape_unit.specs.declared.command.Command.{Command}
 use Rattle.tape_unit.specs.declared.command.Command.TheVariants.{Control, Sense, Read, ReadBackward, Write}
-use Rattle.tape_unit.specs.declared.command.Control.TheVariants as control
+use Rattle.tape_unit.specs.declared.command.ControlCommand.TheVariants as control
 
 -- the command with a code; a code that is not listed is rejected
 abbrev pub command_of : ℕ → Option Command
@@ -22,7 +22,7 @@ command_of code =
     else if code == 0x3F then Some (Control control.ForwardSpaceFile)
     else None
 
--- the way that its data goes
+-- the direction of its data
 abbrev pub flow_of : Option Command → Flow
 flow_of None = flow.None
 flow_of (Some (Control command)) = flow.None

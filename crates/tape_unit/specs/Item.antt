@@ -1,4 +1,4 @@
--- What lies on a tape, and the bytes that it takes there.
+-- An item of a tape, and the bytes that it takes on the medium.
 use Rattle.std.specs.Prelude.{◌≡◌, ℕ, ◌+◌, Bool, true, false, nat_le, ◌&&◌, List, [], ◌∷◌, ◌++◌, length, take, drop}
 use Rattle.byteorder.specs.Endian.{big_bytes, big_number}
 use Rattle.device_port.specs.Packed.{Spelling}
@@ -8,6 +8,7 @@ pub data Item : Type 0 where
   tape_mark : Item
   block : List ℕ → Item
 
+-- whether an item is a tape mark
 abbrev pub is_mark : Item → Bool
 is_mark tape_mark = true
 is_mark (block bytes) = false
@@ -35,7 +36,7 @@ size_of x = 4 + length (content_of x)
 abbrev pub length_bytes : Item → List ℕ
 length_bytes x = big_bytes 2 (length (content_of x))
 
--- the bytes themselves: the length is before the data and after it, so that the tape moves either way (profile)
+-- the bytes themselves: the length is before the data and after it, so that the tape moves in both directions (profile)
 abbrev pub packed : Item → List ℕ
 packed x = length_bytes x ++ (content_of x ++ length_bytes x)
 

@@ -25,6 +25,7 @@ initial (initially.Block bytes) = block bytes.items
 abbrev pub is_initial : InitialItem → Bool
 is_initial r = is_item (initial r)
 
+-- the items just after mounting
 abbrev pub opening_items : List InitialItem → List Item
 opening_items items = map initial items
 
@@ -37,6 +38,7 @@ is_medium bytes items faults =
 abbrev pub wound : ReelState → List Fault → TapeState
 wound reel faults = record { reel = reel; place = 0; ordinals = record { script = faults; done = 0 } }
 
+-- the tape just after mounting: its head is at the load point
 abbrev pub opening : ℕ → List InitialItem → List Fault → TapeState
 opening bytes items faults = wound (record { size = bytes; items = opening_items items }) faults
 
@@ -53,6 +55,7 @@ Unmounts faults BadGeometry = ⊥
 Unmounts faults BadMedium = is_script faults ≡ false
 Unmounts faults NoMemory = is_script faults ≡ true
 
+-- the result of mounting a reel: the tape at its load point, or the reel handed back with the reason
 abbrev pub MountsReel : ReelState → List Fault → Result TapeState Unmounted → Type 0
 MountsReel reel faults (Ok tape) = (is_script faults ≡ true) × (tape ≡ wound reel faults)
 MountsReel reel faults (Err e) = Unmounts faults e.reason × (e.recording ≡ reel)

@@ -26,7 +26,7 @@ with_item reel x = record { size = reel.size; items = reel.items ++ x ∷ [] }
 abbrev pub takes_item : ReelState → Item → Bool
 takes_item reel x = has_room_at reel (length reel.items) (length (content_of x))
 
--- WHAT RECORDING AN ITEM ANSWERS: the first reason that holds, if it is not recorded
+-- THE RESULT OF RECORDING AN ITEM: `Ok`, or the first reason that holds
 abbrev pub Records : ReelState → Item → {A : Type 0} → Result A RecordingError → Type 0
 Records reel x (Ok done) = (is_item x ≡ true) × (takes_item reel x ≡ true)
 Records reel x (Err recording.BadSize) = ⊥
@@ -38,7 +38,7 @@ Records reel x (Err recording.NoMemory) = (is_item x ≡ true) × (takes_item re
 abbrev pub resized : ReelState → ℕ → ReelState
 resized reel bytes = record { size = bytes; items = reel.items }
 
--- WHAT CHANGING THE SIZE ANSWERS: the first reason that holds, if it stays
+-- THE RESULT OF CHANGING THE SIZE: `Ok`, or the first reason that holds
 abbrev pub Resizes : ReelState → ℕ → {A : Type 0} → Result A RecordingError → Type 0
 Resizes reel bytes (Ok done) = (is_recordable bytes ≡ true) × (nat_le (bytes_of reel.items) bytes ≡ true)
 Resizes reel bytes (Err recording.BadSize) = is_recordable bytes ≡ false

@@ -10,7 +10,7 @@ use Rattle.device_port.specs.Meaning.{Outcome, Lawful, GivesWhatItWants}
 use Rattle.device_port.specs.MeaningLaws.{gives_nothing}
 use Rattle.tape_unit.specs.declared.command.Command.{Command}
 use Rattle.tape_unit.specs.declared.command.Command.TheVariants.{Control, Sense, Read, ReadBackward, Write}
-use Rattle.tape_unit.specs.declared.command.Control.TheVariants as control
+use Rattle.tape_unit.specs.declared.command.ControlCommand.TheVariants as control
 use Rattle.tape_unit.specs.Item.{Item, tape_mark, block, is_mark, content_of}
 use Rattle.tape_unit.specs.Reel.{has_room_at}
 use Rattle.tape_unit.specs.Command.{command_of, flow_of}

@@ -7,7 +7,7 @@ use device_port::Flow;
 
 /// A command that moves no data.
 #[derive(Clone, Copy, Debug, PartialEq, Eq)]
-pub enum Control {
+pub enum ControlCommand {
     NoOperation,
     Rewind,
     WriteTapeMark,
@@ -20,7 +20,7 @@ pub enum Control {
 /// The commands of a tape.
 #[derive(Clone, Copy, Debug, PartialEq, Eq)]
 pub enum Command {
-    Control(Control),
+    Control(ControlCommand),
     Sense,
     Read,
     ReadBackward,
@@ -35,21 +35,21 @@ impl Command {
         let command = match code {
             0x01 => Command::Write,
             0x02 => Command::Read,
-            0x03 => Command::Control(Control::NoOperation),
+            0x03 => Command::Control(ControlCommand::NoOperation),
             0x04 => Command::Sense,
-            0x07 => Command::Control(Control::Rewind),
+            0x07 => Command::Control(ControlCommand::Rewind),
             0x0C => Command::ReadBackward,
-            0x1F => Command::Control(Control::WriteTapeMark),
-            0x27 => Command::Control(Control::BackspaceBlock),
-            0x2F => Command::Control(Control::BackspaceFile),
-            0x37 => Command::Control(Control::ForwardSpaceBlock),
-            0x3F => Command::Control(Control::ForwardSpaceFile),
+            0x1F => Command::Control(ControlCommand::WriteTapeMark),
+            0x27 => Command::Control(ControlCommand::BackspaceBlock),
+            0x2F => Command::Control(ControlCommand::BackspaceFile),
+            0x37 => Command::Control(ControlCommand::ForwardSpaceBlock),
+            0x3F => Command::Control(ControlCommand::ForwardSpaceFile),
             _ => return None,
         };
         Some(command)
     }
 
-    /// The way that the data of a command goes.
+    /// The direction of a command's data.
     pub fn flow(command: Option<Self>) -> Flow
         ensures { result ≡ flow_of command }
     {

@@ -156,7 +156,7 @@ impl Recording {
         Ok(())
     }
 
-    /// Cuts the tape after its last item, so that it has no room for another.
+    /// Cuts the tape after its last item, so that no other item fits.
     pub fn cut(&mut self)
         ensures { self.new ≡ cut self.old }
     {

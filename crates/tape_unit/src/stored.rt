@@ -8,7 +8,7 @@ use crate::position::Position;
 use crate::reel::Reel;
 use std::marker::Model;
 
-/// An item as it lies on a tape: a block of data, or a tape mark.
+/// An item on a tape: a block of data, or a tape mark.
 #[derive(Drop)]
 pub struct Stored<'a> {
     content: &'a [u8],

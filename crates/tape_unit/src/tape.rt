@@ -6,7 +6,7 @@ ghost use Rattle.tape_unit.specs.Item.{content_of};
 ghost use Rattle.tape_unit.specs.Tape.{tape, read_ended, spaced_ended};
 ghost use Rattle.tape_unit.specs.TapeLaws.{tape_lawful};
 
-use crate::command::{Command, Control};
+use crate::command::{Command, ControlCommand};
 use crate::mount::{InitialItem, are_items, fit, is_size, loaded};
 use crate::position::Position;
 use crate::reel::{LONGEST_BLOCK, Reel};
@@ -126,18 +126,18 @@ impl Tape {
     }
 
     /// A command that moves no data.
-    fn control(&mut self, command: Control) -> Acted
+    fn control(&mut self, command: ControlCommand) -> Acted
         ensures acted { result ≡ (control_on self.old command).acted }
         ensures device { self.new ≡ (control_on self.old command).device }
     {
         match command {
-            Control::NoOperation => Acted::no_operation(),
-            Control::Rewind => self.rewind(),
-            Control::WriteTapeMark => self.write_tape_mark(),
-            Control::BackspaceBlock => self.backspace_block(),
-            Control::BackspaceFile => self.backspace_file(),
-            Control::ForwardSpaceBlock => self.forward_space_block(),
-            Control::ForwardSpaceFile => self.forward_space_file(),
+            ControlCommand::NoOperation => Acted::no_operation(),
+            ControlCommand::Rewind => self.rewind(),
+            ControlCommand::WriteTapeMark => self.write_tape_mark(),
+            ControlCommand::BackspaceBlock => self.backspace_block(),
+            ControlCommand::BackspaceFile => self.backspace_file(),
+            ControlCommand::ForwardSpaceBlock => self.forward_space_block(),
+            ControlCommand::ForwardSpaceFile => self.forward_space_file(),
         }
     }
 

@@ -8,7 +8,7 @@ use crate::plan::Plan;
 use crate::printer::Printer;
 use crate::reader::ScenarioReader;
 use book_states::Step;
-use job_script::{FaultName, JobError, LIMIT, Line, Refusal, SetUp};
+use job_script::{FaultName, JobError, LIMIT, LineError, ScriptLine, SetUp};
 use std::alloc::Global;
 use std::io::{Read, Write};
 
@@ -67,7 +67,7 @@ impl<'a, I: Read + Drop, W: Write, E: Write> Dialog<'a, I, W, E> {
                 break;
             }
             match self.of_line(self.reader.line())? {
-                ScenarioLine::Script(Line::Nothing) => {}
+                ScenarioLine::Script(ScriptLine::Nothing) => {}
                 line => return Ok(Some(line)),
             }
         }
@@ -103,9 +103,9 @@ impl<'a, I: Read + Drop, W: Write, E: Write> Dialog<'a, I, W, E> {
     }
 
     /// The steps of an event. There is none after `finish`.
-    fn steps(&mut self, set_up: &SetUp, line: ScenarioLine) -> Result<LineSteps, Refusal> {
+    fn steps(&mut self, set_up: &SetUp, line: ScenarioLine) -> Result<LineSteps, LineError> {
         if self.is_finished {
-            return Err(Refusal::Fault(FaultName::Order));
+            return Err(LineError::Fault(FaultName::Order));
         }
         let steps = LineSteps::of(set_up, line)?;
         self.is_finished = steps.step() == Some(Step::Finish);
@@ -119,13 +119,13 @@ impl<'a, I: Read + Drop, W: Write, E: Write> Dialog<'a, I, W, E> {
     }
 
     /// The outcome of the line that was read last, whose number an error has.
-    fn of_line<T: Drop>(&self, outcome: Result<T, Refusal>) -> Result<T, JobError>
+    fn of_line<T: Drop>(&self, outcome: Result<T, LineError>) -> Result<T, JobError>
         ensures { IfOk result (λ value. outcome ≡ Ok value) }
     {
         match outcome {
             Ok(value) => Ok(value),
-            Err(Refusal::NoMemory) => Err(JobError::NoMemory),
-            Err(Refusal::Fault(name)) => Err(JobError::Line {
+            Err(LineError::NoMemory) => Err(JobError::NoMemory),
+            Err(LineError::Fault(name)) => Err(JobError::Line {
                 line: self.reader.number,
                 name,
             }),

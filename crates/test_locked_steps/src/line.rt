@@ -12,16 +12,16 @@ use crate::room_line::RoomLine;
 use crate::verb::EventVerb;
 use book_states::Step;
 use job_script::forms::{has, has_least, index, mode_of, number_in};
-use job_script::{Action, Command, FaultName, Line, Refusal};
+use job_script::{Action, FaultName, LineError, ScriptCommand, ScriptLine};
 use request_piece::Scope;
-use script_words::{Words, is_word};
+use script_words::{LineWords, is_word};
 use std::alloc::Global;
 
 /// A line of a scenario.
 #[derive(Drop)]
 pub(crate) enum ScenarioLine {
     /// A line that scripts have too, other than `wait`.
-    Script(Line),
+    Script(ScriptLine),
     Room(RoomLine),
     Step(Step),
     /// The unit takes, starts, runs, interrupts and delivers until it is idle.
@@ -35,8 +35,8 @@ impl ScenarioLine {
     pub(crate) fn read(
         alloc: Global,
         number: usize,
-        line: &Words<'_>,
-    ) -> Result<ScenarioLine, Refusal>
+        line: &LineWords<'_>,
+    ) -> Result<ScenarioLine, LineError>
         ensures { Returns scenario_said result (scenario_line number line.now.line.now) }
     {
         match event_verb(line) {
@@ -47,7 +47,7 @@ impl ScenarioLine {
 
     /// Reads a line that scripts do not have.
     #[tactic(auto, unfolding(crate::specs::ScenarioLines::by_event_verb))]
-    fn by_verb(verb: EventVerb, line: &Words<'_>) -> Result<ScenarioLine, FaultName>
+    fn by_verb(verb: EventVerb, line: &LineWords<'_>) -> Result<ScenarioLine, FaultName>
         ensures { ReadsAs scenario_said result (by_event_verb verb (words_in line.now)) }
     {
         match verb {
@@ -72,7 +72,7 @@ impl ScenarioLine {
 
 /// The first word of a line, if scripts have no such line.
 #[tactic(auto, unfolding(crate::specs::ScenarioLines::event_kind))]
-fn event_verb(line: &Words<'_>) -> Option<EventVerb>
+fn event_verb(line: &LineWords<'_>) -> Option<EventVerb>
     ensures { result ≡ event_kind line.now.line.now }
 {
     if line.is_printable() {
@@ -83,29 +83,29 @@ fn event_verb(line: &Words<'_>) -> Option<EventVerb>
 }
 
 /// Reads a line that scripts have too.
-fn of_script(alloc: Global, number: usize, line: &Words<'_>) -> Result<ScenarioLine, Refusal>
+fn of_script(alloc: Global, number: usize, line: &LineWords<'_>) -> Result<ScenarioLine, LineError>
     ensures { Returns scenario_said result (with_no_wait (line_of number line.now.line.now)) }
 {
-    match Line::read(alloc, number, line) {
-        Ok(Line::Command(command)) => of_command(command),
+    match ScriptLine::read(alloc, number, line) {
+        Ok(ScriptLine::Command(command)) => of_command(command),
         Ok(read) => Ok(ScenarioLine::Script(read)),
         Err(refusal) => Err(refusal),
     }
 }
 
 /// A command of a task. Rejects `wait`.
-fn of_command(command: Command) -> Result<ScenarioLine, Refusal>
+fn of_command(command: ScriptCommand) -> Result<ScenarioLine, LineError>
     ensures { Returns scenario_said result (no_wait (says_command (command_said command))) }
 {
     match command.action {
-        Action::Wait => Err(Refusal::Fault(FaultName::Words)),
-        _ => Ok(ScenarioLine::Script(Line::Command(command))),
+        Action::Wait => Err(LineError::Fault(FaultName::Words)),
+        _ => Ok(ScenarioLine::Script(ScriptLine::Command(command))),
     }
 }
 
 /// The number of a unit or a task, on a line of two words.
 #[tactic(auto, unfolding(crate::specs::ScenarioLines::number_line))]
-fn number_on(line: &Words<'_>) -> Result<u16, FaultName>
+fn number_on(line: &LineWords<'_>) -> Result<u16, FaultName>
     ensures { Reads result (number_line (words_in line.now)) }
 {
     has(line, 2)?;
@@ -114,7 +114,7 @@ fn number_on(line: &Words<'_>) -> Result<u16, FaultName>
 
 /// `run U N`
 #[tactic(auto, unfolding(crate::specs::ScenarioLines::run_line))]
-fn run_on(line: &Words<'_>) -> Result<Step, FaultName>
+fn run_on(line: &LineWords<'_>) -> Result<Step, FaultName>
     ensures { ReadsAs says_step result (run_line (words_in line.now)) }
 {
     has(line, 3)?;
@@ -125,7 +125,7 @@ fn run_on(line: &Words<'_>) -> Result<Step, FaultName>
 
 /// `purgetaskat T X MODE U`
 #[tactic(auto, unfolding(crate::specs::ScenarioLines::purge_at_line))]
-fn purge_on(line: &Words<'_>) -> Result<Step, FaultName>
+fn purge_on(line: &LineWords<'_>) -> Result<Step, FaultName>
     ensures { ReadsAs says_step result (purge_at_line (words_in line.now)) }
 {
     has(line, 5)?;
@@ -143,7 +143,7 @@ fn purge_on(line: &Words<'_>) -> Result<Step, FaultName>
 
 /// `room intake N`, `room post N` or `room book U N`
 #[tactic(auto, unfolding(crate::specs::ScenarioLines::room_line))]
-fn room_on(line: &Words<'_>) -> Result<RoomLine, FaultName>
+fn room_on(line: &LineWords<'_>) -> Result<RoomLine, FaultName>
     ensures { Reads result (room_line (words_in line.now)) }
 {
     has_least(line, 2)?;

@@ -12,7 +12,8 @@ use crate::task_records::TaskRecords;
 use book_states::Step;
 use job_mount::can_issue;
 use job_script::{
-    Action, Command, DcbName, Excp, ExcpLine, FaultName, Line, Opening, Refusal, SetUp, SetUpLine,
+    Action, DcbName, Excp, ExcpLine, FaultName, LineError, Opening, ScriptCommand, ScriptLine,
+    SetUp, SetUpLine,
 };
 use request_piece::Scope;
 use std::alloc::AllocError;
@@ -51,11 +52,13 @@ struct IssuableExcp {
 
 impl LineSteps {
     /// The steps of a line, if it is an event and all that it names is declared.
-    pub(crate) fn of(set_up: &SetUp, line: ScenarioLine) -> Result<Self, Refusal> {
+    pub(crate) fn of(set_up: &SetUp, line: ScenarioLine) -> Result<Self, LineError> {
         match line {
-            ScenarioLine::Script(Line::Excp(line)) => LineSteps::push(set_up, line),
-            ScenarioLine::Script(Line::Command(command)) => LineSteps::command(set_up, &command),
-            ScenarioLine::Script(Line::SetUp(SetUpLine::Opening(unit, opening))) => {
+            ScenarioLine::Script(ScriptLine::Excp(line)) => LineSteps::push(set_up, line),
+            ScenarioLine::Script(ScriptLine::Command(command)) => LineSteps::command(
+                set_up, &command,
+            ),
+            ScenarioLine::Script(ScriptLine::SetUp(SetUpLine::Opening(unit, opening))) => {
                 let step = Step::Open { unit, opening: 0 };
                 let mut steps = LineSteps::new(set_up, Course::Once, step)?;
                 steps.opening = Some(opening);
@@ -63,12 +66,12 @@ impl LineSteps {
             }
             ScenarioLine::Step(step) => LineSteps::new(set_up, Course::Once, step),
             ScenarioLine::Serve(unit) => LineSteps::new(set_up, Course::Serve, Step::Take(unit)),
-            _ => Err(Refusal::Fault(FaultName::Order)),
+            _ => Err(LineError::Fault(FaultName::Order)),
         }
     }
 
     /// The steps from this one on, which bring nothing. The tasks and the unit that it names must be declared.
-    fn new(set_up: &SetUp, course: Course, step: Step) -> Result<Self, Refusal> {
+    fn new(set_up: &SetUp, course: Course, step: Step) -> Result<Self, LineError> {
         names(set_up, step)?;
         Ok(LineSteps {
             course,
@@ -80,21 +83,21 @@ impl LineSteps {
     }
 
     /// The step of an EXCP.
-    fn push(set_up: &SetUp, line: ExcpLine) -> Result<Self, Refusal> {
+    fn push(set_up: &SetUp, line: ExcpLine) -> Result<Self, LineError> {
         let task = line.task;
         let excp = set_up.over_area(line)?;
         let step = Step::Push { task, request: 0 };
         let mut steps = LineSteps::new(set_up, Course::Once, step)?;
         set_up.names_unit(excp.dcb.unit)?;
         if !can_issue(&excp) {
-            return Err(Refusal::Fault(FaultName::Request));
+            return Err(LineError::Fault(FaultName::Request));
         }
         steps.excp = Some(IssuableExcp { excp });
         Ok(steps)
     }
 
     /// The steps of a command of a task other than an EXCP.
-    fn command(set_up: &SetUp, command: &Command) -> Result<Self, Refusal> {
+    fn command(set_up: &SetUp, command: &ScriptCommand) -> Result<Self, LineError> {
         let task = command.task;
         let mut course = Course::Once;
         let step = match command.action {

@@ -8,7 +8,7 @@ use crate::room_line::RoomLine;
 use crate::rooms::Rooms;
 use any_device::AnyDevice;
 use job_mount::{mounted_book, open_dcbs};
-use job_script::{FaultName, JobError, Line, Refusal, SetUp, UnitSetup};
+use job_script::{FaultName, JobError, LineError, ScriptLine, SetUp, UnitSetup};
 use std::alloc::Global;
 use unit_book::UnitBook;
 
@@ -33,9 +33,9 @@ impl Plan {
         &mut self,
         alloc: Global,
         line: ScenarioLine,
-    ) -> Result<Option<ScenarioLine>, Refusal> {
+    ) -> Result<Option<ScenarioLine>, LineError> {
         match line {
-            ScenarioLine::Script(Line::SetUp(line)) => {
+            ScenarioLine::Script(ScriptLine::SetUp(line)) => {
                 self.set_up.add(alloc, line)?;
                 Ok(None)
             }
@@ -44,12 +44,12 @@ impl Plan {
                     self.set_up.names_unit(unit)?;
                 }
                 if self.rooms.has(room) {
-                    return Err(Refusal::Fault(FaultName::Order));
+                    return Err(LineError::Fault(FaultName::Order));
                 }
                 self.rooms.set(room);
                 Ok(None)
             }
-            ScenarioLine::Expect => Err(Refusal::Fault(FaultName::Order)),
+            ScenarioLine::Expect => Err(LineError::Fault(FaultName::Order)),
             line => Ok(Some(line)),
         }
     }

@@ -2,8 +2,8 @@
 //! next line.
 
 use crate::line::ScenarioLine;
-use job_script::{JobError, LIMIT, Refusal};
-use script_words::Words;
+use job_script::{JobError, LIMIT, LineError};
+use script_words::LineWords;
 use std::alloc::Global;
 use std::io::{BufRead, BufReader, ErrorKind, Read, Take};
 
@@ -55,8 +55,8 @@ impl<R: Read + Drop> ScenarioReader<R> {
     }
 
     /// What the line that was read last says.
-    pub fn line(&self) -> Result<ScenarioLine, Refusal> {
-        let mut words = Words::new();
+    pub fn line(&self) -> Result<ScenarioLine, LineError> {
+        let mut words = LineWords::new();
         words.scan(self.current());
         ScenarioLine::read(self.alloc, self.number, &words)
     }

@@ -1,5 +1,5 @@
 -- Faults at the last numbers of commands.
 pub mod Ordinals
 -- Worked channel programs and runs.
-pub mod Rows
+pub mod Programs
 pub mod Runs

@@ -2,7 +2,7 @@
 
 ghost use Rattle.std.specs.Prelude.{◌≡◌, ◌+◌, length};
 
-use fifo_row::{Full, Item, Row, Sender, Taker};
+use fifo_row::{Full, Row, RowItem, Sender, Taker};
 use std::process::Abort;
 use std::sync::Wait;
 use std::test::Fail;
@@ -18,7 +18,7 @@ struct Parcel {
     row: u16,
 }
 
-impl Item for Parcel {
+impl RowItem for Parcel {
     ghost use Rattle.std.specs.Prelude.{◌≡◌};
 
     ghost from = { λ parcel. parcel.sender };

@@ -12,6 +12,16 @@ use Rattle.unit_book.specs.declared.answer.Closing.{Closing}
 use Rattle.unit_book.specs.Legal.{RanFits}
 use Rattle.unit_book.specs.Answers.{OpensBook, RunsOn}
 use Rattle.unit_book.specs.Controls.{PurgesBook, ClosesBy, ClosesBook}
+use Rattle.request_piece.specs.declared.scope.Scope.TheVariants.{Dcb, Task}
+use Rattle.unit_book.specs.declared.control.Control.{Control}
+use Rattle.unit_book.specs.declared.control.Control.TheVariants as control
+use Rattle.unit_book.specs.declared.control.Controlling.{Controlling}
+use Rattle.unit_book.specs.declared.control.Controlling.TheVariants as controlling
+use Rattle.unit_book.specs.declared.step.UnitAnswer.{UnitAnswer}
+use Rattle.unit_book.specs.declared.step.UnitAnswer.TheVariants as answer
+use Rattle.unit_book.specs.declared.step.UnitStep.{UnitStep}
+use Rattle.unit_book.specs.declared.step.UnitStep.TheVariants as step
+use Rattle.unit_book.specs.Steps.{ControlsBook, StepsBook}
 use Rattle.unit_book.proofs.LegalFacts.{SoundTrace}
 use Rattle.unit_book.proofs.WorldTraces.{Grows, grows-not, grows-open, grows-arrive, grows-start, grows-ran, grows-post, grows-close}
 use Rattle.unit_book.proofs.WorldTraces.{grows-reset, grows-purge, grows-purged}
@@ -123,3 +133,36 @@ module _ {D : Type 0} (meaning : Meaning D) where
       Keeps old [] new
   unfolding posted
   keeps-reset {dcb = dcb} s o h = keeps-adds h (grows-reset dcb s o) refl
+
+  pub keeps-control : {old new : Book D} (c : Control) (a : Controlling) → Sound old → ControlsBook meaning old c a new → Keeps old [] new
+  keeps-control (control.Purge (Dcb dcb) mode) (controlling.Purged p) s h = keeps-purge {scope = Dcb dcb} s h.0 h.1
+  keeps-control (control.Purge (Task task) mode) (controlling.Purged p) s h = keeps-purge {scope = Task task} s tt h
+  keeps-control (control.Close dcb) (controlling.Closed c) s h = keeps-close s h
+  keeps-control (control.Reset dcb) controlling.Reset s h = keeps-reset s h.0 h.1
+  keeps-control (control.Purge (Dcb dcb) mode) (controlling.Closed c) s h = elim h [ ]
+  keeps-control (control.Purge (Dcb dcb) mode) controlling.Reset s h = elim h [ ]
+  keeps-control (control.Purge (Task task) mode) (controlling.Closed c) s h = elim h [ ]
+  keeps-control (control.Purge (Task task) mode) controlling.Reset s h = elim h [ ]
+  keeps-control (control.Close dcb) (controlling.Purged p) s h = elim h [ ]
+  keeps-control (control.Close dcb) controlling.Reset s h = elim h [ ]
+  keeps-control (control.Reset dcb) (controlling.Purged p) s h = elim h [ ]
+  keeps-control (control.Reset dcb) (controlling.Closed c) s h = elim h [ ]
+
+  -- EACH STEP OF A BOOK
+  pub keeps-step : {old new : Book D} (t : UnitStep) (a : UnitAnswer) → Sound old → StepsBook meaning old t a new → Keeps old [] new
+  keeps-step step.Start (answer.Started a) s h = keeps-start a s h
+  keeps-step (step.Run max) (answer.Ran a) s h = keeps-run a s h.0 h.1
+  keeps-step step.Interrupt (answer.Interrupted a) s h = keeps-interrupt a s h
+  keeps-step (step.Control c) (answer.Controlled a) s h = keeps-control c a s h
+  keeps-step step.Start (answer.Ran a) s h = elim h [ ]
+  keeps-step step.Start (answer.Interrupted a) s h = elim h [ ]
+  keeps-step step.Start (answer.Controlled a) s h = elim h [ ]
+  keeps-step (step.Run max) (answer.Started a) s h = elim h [ ]
+  keeps-step (step.Run max) (answer.Interrupted a) s h = elim h [ ]
+  keeps-step (step.Run max) (answer.Controlled a) s h = elim h [ ]
+  keeps-step step.Interrupt (answer.Started a) s h = elim h [ ]
+  keeps-step step.Interrupt (answer.Ran a) s h = elim h [ ]
+  keeps-step step.Interrupt (answer.Controlled a) s h = elim h [ ]
+  keeps-step (step.Control c) (answer.Started a) s h = elim h [ ]
+  keeps-step (step.Control c) (answer.Ran a) s h = elim h [ ]
+  keeps-step (step.Control c) (answer.Interrupted a) s h = elim h [ ]

@@ -9,10 +9,14 @@ use Rattle.ccw_programs.specs.Links.{chain_within}
 use Rattle.ccw_programs.specs.Step.{step, steps_within}
 use Rattle.request_piece.specs.declared.scope.Scope.TheVariants.{Dcb}
 use Rattle.unit_book.specs.declared.answer.Purging.TheVariants.{Quiet}
+use Rattle.unit_book.specs.declared.control.Control.TheVariants.{Purge as PurgeControl}
+use Rattle.unit_book.specs.declared.control.Controlling.TheVariants.{Purged as PurgedBy}
+use Rattle.unit_book.specs.declared.step.UnitAnswer.TheVariants as answer
+use Rattle.unit_book.specs.declared.step.UnitStep.TheVariants as call
 use Rattle.unit_book.specs.declared.entry.Entry.TheVariants.{Start as StartOf, Purge as PurgeOf}
 use Rattle.unit_book.specs.Trace.{no_request}
 use Rattle.unit_book.specs.Book.{opening}
-use Rattle.unit_book.specs.World.{World, one_more_of_task, without_first, Accepts, Accept, Take, Start, Run, Interrupt, Purge, Deliver}
+use Rattle.unit_book.specs.World.{World, one_more_of_task, without_first, Accepts, Accept, Take, Call, Deliver}
 use Rattle.unit_book.specs.World.{Collect, Reaches, Stay, Go, IsOpening, IsFinished}
 use Rattle.unit_book.specs.WorldLaws.{posts_of}
 
@@ -162,13 +166,13 @@ request_is_posted =
     let w2 : Reaches quiet began (taken arrived [] ready)
     = Go w1 (Take (record { request = r 1; first = refl; room = omega arith; arrives = refl; is = refl })) in
     let w3 : Reaches quiet began (taken running [] ready)
-    = Go w2 (Start (Started (n 1)) (MayFirst (record { none = refl; request = r 1; first = refl; name = refl; passes = refl }), refl)
+    = Go w2 (Call call.Start (answer.Started (Started (n 1))) (MayFirst (record { none = refl; request = r 1; first = refl; name = refl; passes = refl }), refl)
     refl) in
     let w4 : Reaches quiet began (taken ended [] ready)
-    = Go w3 (Run 5 (RanSome 1 true) (omega arith) (record { name = n 1; running = refl; count = refl; adds = refl; pending_is = refl })
-    refl) in
+    = Go w3 (Call (call.Run 5) (answer.Ran (RanSome 1 true))
+    (omega arith, record { name = n 1; running = refl; count = refl; adds = refl; pending_is = refl }) refl) in
     let w5 : Reaches quiet began posted_world
-    = Go w4 (Interrupt (WasPosted (n 1) Ended) (
+    = Go w4 (Call call.Interrupt (answer.Interrupted (WasPosted (n 1) Ended)) (
       refl,
       record {
         status = record { csw = normal_end; sense = 0 };
@@ -198,7 +202,9 @@ purge_posts =
     let w1 : Reaches quiet began ready = Go Stay (Accept (r 1) (record { of_unit = refl; next = refl; room = omega arith; is = refl })) in
     let w2 : Reaches quiet began (taken arrived [] ready)
     = Go w1 (Take (record { request = r 1; first = refl; room = omega arith; arrives = refl; is = refl })) in
-    let w3 : Reaches quiet began swept_world = Go w2 (Purge (Dcb 1) Quiesce Quiet refl (record { purges = refl; answer_is = refl }) refl) in
+    let w3 : Reaches quiet began swept_world
+    = Go w2 (Call (call.Control (PurgeControl (Dcb 1) Quiesce)) (answer.Controlled (PurgedBy Quiet))
+    (refl, record { purges = refl; answer_is = refl }) refl) in
     (w3, record { flight = refl; waiting = refl; active = refl }, refl)
 
 -- 4. A task's second request is not accepted before its first, nor one for another unit, nor a second one where the

@@ -5,11 +5,10 @@ use Rattle.unit_book.proofs.Names.{subst, eqb-true, eq-eqb, append-nil, filter-a
 use Rattle.unit_book.proofs.Names.{PostedState, Name, Piece, arrivals, arrived_of, Legal, posted, Book, Each}
 use Rattle.unit_book.specs.Legal.{Settled}
 use Rattle.unit_book.specs.World.{World, requests_of, values_of, one_more_of_task, without_first, InBook, Takes, Step, Accept, Take, Open}
-use Rattle.unit_book.specs.World.{Start, Run, Interrupt, Purge, Close, Reset, Deliver, Collect, Reaches, Stay, Go, IsOpening}
+use Rattle.unit_book.specs.World.{Call, Deliver, Collect, Reaches, Stay, Go, IsOpening}
 use Rattle.unit_book.proofs.Facts.{Each-behind}
 use Rattle.unit_book.proofs.WorldTraces.{opened-only}
-use Rattle.unit_book.proofs.WorldBooks.{Keeps, Sound, keeps-arrive, keeps-open, keeps-start, keeps-run, keeps-interrupt, keeps-purge}
-use Rattle.unit_book.proofs.WorldBooks.{keeps-close, keeps-reset}
+use Rattle.unit_book.proofs.WorldBooks.{Keeps, Sound, keeps-arrive, keeps-open, keeps-step}
 use Rattle.unit_book.proofs.Lists.{at-push, first-rest, name-is}
 use Rattle.std.proofs.lemmas.Grind.{common_steps}
 
@@ -75,12 +74,7 @@ module _ {D : Type 0} (meaning : Meaning D) where
   step-kept old new k (Accept r s) = subst Kept (sym s.is) (accept-kept old r k s.of_unit s.next)
   step-kept old new k (Take s) = take-kept old new k s
   step-kept old new k (Open dcb method extents s e) = in-book k e (keeps-open meaning (sound old k) s)
-  step-kept old new k (Start answer s e) = in-book k e (keeps-start meaning answer (sound old k) s)
-  step-kept old new k (Run max answer m s e) = in-book k e (keeps-run meaning answer (sound old k) m s)
-  step-kept old new k (Interrupt answer s e) = in-book k e (keeps-interrupt meaning answer (sound old k) s)
-  step-kept old new k (Purge scope mode answer c s e) = in-book k e (keeps-purge meaning (sound old k) c s)
-  step-kept old new k (Close dcb answer s e) = in-book k e (keeps-close meaning (sound old k) s)
-  step-kept old new k (Reset dcb o s e) = in-book k e (keeps-reset meaning (sound old k) o s)
+  step-kept old new k (Call step answer s e) = in-book k e (keeps-step meaning step answer (sound old k) s)
   step-kept old new k (Deliver s) = subst Kept (sym s.is) (deliver-kept old s.value k s.first)
   step-kept old new k (Collect task s) = subst Kept (sym s.is) (collect-kept old task s.value k s.first)
 

@@ -17,6 +17,7 @@ pub mod Fields
 pub mod Activity
 pub mod Laws
 pub mod Controls
+pub mod Steps
 pub mod World
 pub mod WorldLaws
 pub mod Settle

@@ -7,22 +7,16 @@ use Rattle.io_images.specs.declared.extent.Extent.{Extent}
 use Rattle.device_port.specs.Meaning.{Meaning}
 use Rattle.request_piece.specs.PostedState.{PostedState}
 use Rattle.request_piece.specs.declared.piece.Piece.{Piece}
-use Rattle.request_piece.specs.declared.scope.Scope.{Scope}
-use Rattle.unit_book.specs.declared.answer.Closing.{Closing}
-use Rattle.unit_book.specs.declared.answer.Interruption.{Interruption}
-use Rattle.unit_book.specs.declared.answer.Purging.{Purging}
-use Rattle.unit_book.specs.declared.answer.Running.{Running}
-use Rattle.unit_book.specs.declared.answer.Starting.{Starting}
 use Rattle.unit_book.specs.declared.dcb.ProcessingMethod.{ProcessingMethod}
-use Rattle.unit_book.specs.declared.entry.Mode.{Mode}
-use Rattle.unit_book.specs.declared.entry.Entry.TheVariants.{Arrive, Reset as ResetOf}
+use Rattle.unit_book.specs.declared.entry.Entry.TheVariants.{Arrive}
+use Rattle.unit_book.specs.declared.step.UnitAnswer.{UnitAnswer}
+use Rattle.unit_book.specs.declared.step.UnitStep.{UnitStep}
 use Rattle.unit_book.specs.Trace.{is_opening, waiting, active}
-use Rattle.unit_book.specs.Dcbs.{is_open}
-use Rattle.unit_book.specs.Legal.{Legal, CanPurge}
+use Rattle.unit_book.specs.Legal.{Legal}
 use Rattle.unit_book.specs.Dooms.{after_dooms}
 use Rattle.unit_book.specs.Book.{Book, occupancy}
-use Rattle.unit_book.specs.Answers.{Adds, Extends, OpensBook, StartsBook, RunsBook, InterruptsBook}
-use Rattle.unit_book.specs.Controls.{PurgesBook, ClosesBook}
+use Rattle.unit_book.specs.Answers.{Extends, OpensBook}
+use Rattle.unit_book.specs.Steps.{StepsBook}
 
 -- the requests of a task, in order
 abbrev pub requests_of : ℕ → List Piece → List Piece
@@ -96,20 +90,14 @@ module _ {D : Type 0} (meaning : Meaning D) where
     pub arrives : Extends meaning old.book (after_dooms (Arrive request ∷ old.book.trace)) old.book.awaits new.book
     pub is : new ≡ record old { flight = drop 1 old.flight; book = new.book }
 
-  -- A STEP of the world: a request is accepted or taken, the book does a call, a posted value is delivered or
-  -- collected. What is refused is no step, nor is `reserve`: it changes nothing but the room for entries
+  -- A STEP of the world: a request is accepted or taken, the book opens a DCB or is called by a value, a posted value is delivered
+  -- or collected. What is refused is no step, nor is `reserve`: it changes nothing but the room for entries
   pub data Step (old new : World D) : Type 0 where
     Accept : (r : Piece) → Accepts old r new → Step old new
     Take : Takes old new → Step old new
     Open : (dcb : ℕ) (method : ProcessingMethod) (extents : List Extent) → OpensBook meaning old.book dcb method extents new.book →
         InBook old new → Step old new
-    Start : (answer : Starting) → StartsBook meaning old.book answer new.book → InBook old new → Step old new
-    Run : (max : ℕ) (answer : Running) → 1 ≤ max → RunsBook meaning old.book max answer new.book → InBook old new → Step old new
-    Interrupt : (answer : Interruption) → InterruptsBook meaning old.book answer new.book → InBook old new → Step old new
-    Purge : (scope : Scope) (mode : Mode) (answer : Purging) → CanPurge meaning old.book.mounted scope old.book.trace →
-        PurgesBook meaning old.book scope mode answer new.book → InBook old new → Step old new
-    Close : (dcb : ℕ) (answer : Closing) → ClosesBook meaning old.book dcb answer new.book → InBook old new → Step old new
-    Reset : (dcb : ℕ) → is_open dcb old.book.trace ≡ true → Adds old.book (ResetOf dcb) new.book → InBook old new → Step old new
+    Call : (step : UnitStep) (answer : UnitAnswer) → StepsBook meaning old.book step answer new.book → InBook old new → Step old new
     Deliver : Delivers old new → Step old new
     Collect : (task : ℕ) → Collects old task new → Step old new
 

@@ -3,6 +3,7 @@
 mod controls;
 mod readers;
 mod settle;
+mod steps;
 
 ghost use Rattle.std.specs.Prelude.{◌≡◌, ◌≢◌, ◌≤◌, ◌<◌, ◌+◌, ◌∷◌, ◌++◌, [], IfOk, IfErr, OnOk, OnErr, IfSome, IsSome, length, slice_get, drop, true, false, None};
 ghost use Rattle.unit_book.specs.Answers.{ArriveRefused, InterruptsBook, OpenRefused, OpensBook, Extends, RunsBook, StartsBook, pending_after};

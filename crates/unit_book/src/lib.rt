@@ -11,6 +11,7 @@ mod active;
 mod activity;
 mod answer;
 mod book;
+mod control;
 mod dcb;
 mod decision;
 mod doom;
@@ -18,6 +19,7 @@ mod entries;
 mod entry;
 mod extents;
 pub mod laws;
+mod step;
 
 pub use activity::{Activity, ActivityPhase};
 pub use answer::{
@@ -25,7 +27,9 @@ pub use answer::{
     Starting,
 };
 pub use book::UnitBook;
+pub use control::{Control, Controlling};
 pub use dcb::{DcbState, ProcessingMethod};
 pub use entry::{Entry, Mode};
 pub use extents::{ExtentRefusal, Extents, ExtentsRefusal, extents_refusal, passes_check};
 pub use request_piece::Issued;
+pub use step::{UnitAnswer, UnitStep};

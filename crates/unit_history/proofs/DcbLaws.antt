@@ -31,7 +31,7 @@ unfoldable use Rattle.unit_history.specs.Dcbs.{known_of}
 use Rattle.unit_history.specs.Events.{entries_so_far}
 use Rattle.unit_history.specs.Orderly.{ErrorFollows, OpenFollows}
 unfoldable use Rattle.unit_history.specs.Orderly.{Orderly}
-use Rattle.unit_history.specs.declared.dcbs.Dcb.{Dcb}
+use Rattle.unit_history.specs.declared.dcbs.DcbEntries.{DcbEntries}
 use Rattle.unit_history.specs.declared.dcbs.Dcbs.{Dcbs}
 
 -- the next place
@@ -44,7 +44,7 @@ place-other o d room e = grind (arith, common_steps, nat_tests)
 place-below : (o d room k : ℕ) → dcb_place d room o ≡ Some k → k < o
 place-below o d room k e = grind (arith, common_steps, nat_tests)
 
-pub opens-next : (xs : List Dcb) (room o d : ℕ) → room ≡ length xs → o < room →
+pub opens-next : (xs : List DcbEntries) (room o d : ℕ) → room ≡ length xs → o < room →
     option_and_then (slice_get (slice_set xs o opened_dcb)) (dcb_place d room (o + 1))
     ≡ (if eqb (o + 1) d then Some opened_dcb else option_and_then (slice_get xs) (dcb_place d room o))
 opens-next xs room o d n h =
@@ -65,23 +65,23 @@ closed-by d (Close c ∷ H) = grind (arith, common_steps, closed-by d H)
 closed-by d (_ ∷ H) = closed-by d H
 
 -- what is known of a DCB is so
-abbrev pub IsKnown : ℕ → List Entry → Option Dcb → Type 0
+abbrev pub IsKnown : ℕ → List Entry → Option DcbEntries → Type 0
 IsKnown d H None = (is_opened d H ≡ false) × (closed_by d H ≡ None) × (flag d H ≡ false)
 IsKnown d H (Some k) = (is_opened d H ≡ true) × (closed_by d H ≡ k.closed) × (flag d H ≡ true → flagged_by d H ≡ k.flagged)
 
 module _ (d : ℕ) (H : List Entry) where
   -- a DCB that was not opened before
-  fresh-known : (o : Option Dcb) → is_opened d H ≡ false → IsKnown d H o → (closed_by d H ≡ None) × (flag d H ≡ false)
+  fresh-known : (o : Option DcbEntries) → is_opened d H ≡ false → IsKnown d H o → (closed_by d H ≡ None) × (flag d H ≡ false)
   fresh-known None n k = (k.1, k.2)
   fresh-known (Some x) n k = no_both (is_opened d H) k.0 n
 
-  opened-other : (c : ℕ) (m : ProcessingMethod) (x : List Extent) (o : Option Dcb) → eqb c d ≡ false → IsKnown d H o →
+  opened-other : (c : ℕ) (m : ProcessingMethod) (x : List Extent) (o : Option DcbEntries) → eqb c d ≡ false → IsKnown d H o →
       IsKnown d (Opened c m x ∷ H) o
   unfolding closed_by flag flagged_by
   opened-other c m x None e k = (rw e k.0, k.1, k.2)
   opened-other c m x (Some y) e k = (rw e k.0, k.1, k.2)
 
-  known-opened : (c : ℕ) (m : ProcessingMethod) (x : List Extent) (o : Option Dcb) → OpenFollows c (Opened c m x) H → IsKnown d H o →
+  known-opened : (c : ℕ) (m : ProcessingMethod) (x : List Extent) (o : Option DcbEntries) → OpenFollows c (Opened c m x) H → IsKnown d H o →
       IsKnown d (Opened c m x ∷ H) (if eqb c d then Some opened_dcb else o)
   unfolding closed_by flag flagged_by
   known-opened c m x o f k =
@@ -94,18 +94,18 @@ module _ (d : ℕ) (H : List Entry) where
         | inr e ↦ subst (λ (b : Bool). IsKnown d (Opened c m x ∷ H) (if b then Some opened_dcb else o)) (sym e) (opened-other c m x o e k)
       ]
 
-  closed-self : (c : ℕ) (o : Option Dcb) → is_open d H ≡ true → eqb c d ≡ true → IsKnown d H o →
+  closed-self : (c : ℕ) (o : Option DcbEntries) → is_open d H ≡ true → eqb c d ≡ true → IsKnown d H o →
       IsKnown d (Close c ∷ H) (option_map (closed_at (length H + 1)) o)
   unfolding closed_by flag flagged_by
   closed-self c None f e k = no_both (is_opened d H) (and_parts (is_opened d H) (not (is_closed d H)) f).0 k.0
   closed-self c (Some y) f e k = (k.0, rw e refl, k.2)
 
-  closed-other : (c : ℕ) (o : Option Dcb) → eqb c d ≡ false → IsKnown d H o → IsKnown d (Close c ∷ H) o
+  closed-other : (c : ℕ) (o : Option DcbEntries) → eqb c d ≡ false → IsKnown d H o → IsKnown d (Close c ∷ H) o
   unfolding closed_by flag flagged_by
   closed-other c None e k = (k.0, rw e k.1, k.2)
   closed-other c (Some y) e k = (k.0, rw e k.1, k.2)
 
-  known-closed : (c : ℕ) (o : Option Dcb) → is_open c H ≡ true → IsKnown d H o →
+  known-closed : (c : ℕ) (o : Option DcbEntries) → is_open c H ≡ true → IsKnown d H o →
       IsKnown d (Close c ∷ H) (if eqb c d then option_map (closed_at (length H + 1)) o else o)
   known-closed c o f k =
       elim (cases_Bool (eqb c d)) [
@@ -118,7 +118,7 @@ module _ (d : ℕ) (H : List Entry) where
             (closed-other c o e k)
       ]
 
-  known-reset : (c : ℕ) (o : Option Dcb) → IsKnown d H o → IsKnown d (Reset c ∷ H) o
+  known-reset : (c : ℕ) (o : Option DcbEntries) → IsKnown d H o → IsKnown d (Reset c ∷ H) o
   unfolding closed_by flag flagged_by
   known-reset c None k = grind (arith, common_steps)
   known-reset c (Some x) k = grind (arith, common_steps)
@@ -127,18 +127,18 @@ module _ (d : ℕ) (H : List Entry) where
     abbrev sets : Bool
     sets = is_error code && (request_named n H).related && eqb (request_named n H).dcb d
 
-    posted-self : (o : Option Dcb) → is_opened d H ≡ true → sets ≡ true → IsKnown d H o →
+    posted-self : (o : Option DcbEntries) → is_opened d H ≡ true → sets ≡ true → IsKnown d H o →
         IsKnown d (Post n csw sense code ∷ H) (option_map (flagged_at (length H + 1)) o)
     unfolding closed_by flag flagged_by
     posted-self None f e k = no_both (is_opened d H) f k.0
     posted-self (Some y) f e k = (k.0, k.1, λ g. rw e refl)
 
-    posted-other : (o : Option Dcb) → sets ≡ false → IsKnown d H o → IsKnown d (Post n csw sense code ∷ H) o
+    posted-other : (o : Option DcbEntries) → sets ≡ false → IsKnown d H o → IsKnown d (Post n csw sense code ∷ H) o
     unfolding closed_by flag flagged_by
     posted-other None e k = (k.0, k.1, rw e k.2)
     posted-other (Some y) e k = (k.0, k.1, λ g. rw e (k.2 (rw e at g)))
 
-    known-posted : (o : Option Dcb) → (is_error code ≡ true → ErrorFollows n H) → IsKnown d H o →
+    known-posted : (o : Option DcbEntries) → (is_error code ≡ true → ErrorFollows n H) → IsKnown d H o →
         IsKnown d (Post n csw sense code ∷ H) (if sets then option_map (flagged_at (length H + 1)) o else o)
     known-posted o f k =
         elim (cases_Bool sets) [
@@ -181,7 +181,7 @@ knows-opened c m x H old new f k s few =
     record {
       opened = omega (arith, s.opened below, t.opened);
       dcbs = λ d. s.dcbs below d ∙ ap (λ (y : ℕ). if eqb y d then Some opened_dcb else known_at d old) next
-          ∙ ap (λ (y : Option Dcb). if eqb c d then Some opened_dcb else y) (t.dcbs d);
+          ∙ ap (λ (y : Option DcbEntries). if eqb c d then Some opened_dcb else y) (t.dcbs d);
     }
 
 pub knows-closed : (c : ℕ) (H : List Entry) (k : ℕ) (old new : Dcbs) → k ≡ length H + 1 → KnowsDcbs H old → ChangesDcb old new c (closed_at k) →
@@ -192,7 +192,7 @@ knows-closed c H k old new n w s few =
     record {
       opened = s.opened ∙ t.opened;
       dcbs = λ d. s.dcbs d ∙ ap (λ (y : ℕ). if eqb c d then option_map (closed_at y) (known_at d old) else known_at d old) n
-          ∙ ap (λ (y : Option Dcb). if eqb c d then option_map (closed_at (length H + 1)) y else y) (t.dcbs d);
+          ∙ ap (λ (y : Option DcbEntries). if eqb c d then option_map (closed_at (length H + 1)) y else y) (t.dcbs d);
     }
 
 knows-error : (n : Name) (csw : Csw) (sense : ℕ) (code : Code) (H : List Entry) (k : ℕ) (old new : Dcbs) → k ≡ length H + 1 →
@@ -206,7 +206,7 @@ knows-error n csw sense code H k old new e i true r w s few =
     record {
       opened = s'.opened ∙ t.opened;
       dcbs = λ d. rw (i, r) (s'.dcbs d ∙ ap (λ (y : ℕ). if eqb c d then option_map (flagged_at y) (known_at d old) else known_at d old) e
-          ∙ ap (λ (y : Option Dcb). if eqb c d then option_map (flagged_at (length H + 1)) y else y) (t.dcbs d));
+          ∙ ap (λ (y : Option DcbEntries). if eqb c d then option_map (flagged_at (length H + 1)) y else y) (t.dcbs d));
     }
 knows-error n csw sense code H k old new e i false r w s few =
     let s' : new ≡ old = rw r at s in

@@ -30,12 +30,13 @@ unfoldable use Rattle.unit_book.proofs.Lists.{without}
 use Rattle.unit_history.specs.Causes.{ArrivedShut, DoomedAt, HasRelatedError, IsClose, IsDoom, IsPurge}
 unfoldable use Rattle.unit_history.specs.Causes.{closed_by, flagged_by}
 use Rattle.unit_history.specs.Dcbs.{arrival_cause}
-use Rattle.unit_history.specs.declared.dcbs.Dcb.{Dcb}
+use Rattle.unit_history.specs.declared.dcbs.DcbEntries.{DcbEntries}
 use Rattle.unit_history.proofs.DcbLaws.{IsKnown, closed-by}
-use Rattle.unit_history.specs.PastTies.{DoomsBy}
-use Rattle.unit_history.specs.declared.event.Cause.{Cause}
-use Rattle.unit_history.specs.declared.event.Cause.TheVariants.{Program, OutsideExtents, Purge as CausePurge, Close as CauseClose, NotOpen}
-use Rattle.unit_history.specs.declared.event.Cause.TheVariants.{RelatedError, Halt, NotTriedAgain, Unknown}
+use Rattle.unit_history.specs.TraceStates.{DoomsBy}
+use Rattle.unit_history.specs.declared.event.PostCause.{PostCause}
+use Rattle.unit_history.specs.declared.event.PostCause.TheVariants.{Program, OutsideExtents}
+use Rattle.unit_history.specs.declared.event.PostCause.TheVariants.{Purge as CausePurge, Close as CauseClose, NotOpen}
+use Rattle.unit_history.specs.declared.event.PostCause.TheVariants.{RelatedError, Halt, NotTriedAgain, Unknown}
 
 -- who waits had arrived
 arrivals-arrived : (H : List Entry) → Each (λ r. has_arrived r.name H ≡ true) (arrivals H)
@@ -99,7 +100,7 @@ few-later room (Close c) H f = f
 few-later room (Reset c) H f = f
 few-later room (Post n csw sense code) H f = f
 
-doom-later : (room : ℕ) (e : Entry) (H : List Entry) (c : Cause) → IsMute e → (r : Piece) → IsDoom room H r c → IsDoom room (e ∷ H) r c
+doom-later : (room : ℕ) (e : Entry) (H : List Entry) (c : PostCause) → IsMute e → (r : Piece) → IsDoom room H r c → IsDoom room (e ∷ H) r c
 doom-later room e H Program m r d = absurd d
 doom-later room e H OutsideExtents m r d = absurd d
 doom-later room e H (CausePurge k) m r d = record { dooms = at-later e H r k d.dooms; is = d.is }
@@ -111,12 +112,14 @@ doom-later room e H (NotTriedAgain k) m r d = absurd d
 doom-later room e H Unknown m r d = absurd d
 
 -- the same are doomed, or fewer
-dooms-same : (room : ℕ) (e : Entry) (H : List Entry) (c : Cause) → IsMute e → doomed (e ∷ H) ≡ doomed H → DoomsBy room H c → DoomsBy room (e ∷ H) c
+dooms-same : (room : ℕ) (e : Entry) (H : List Entry) (c : PostCause) → IsMute e → doomed (e ∷ H) ≡ doomed H → DoomsBy room H c →
+    DoomsBy room (e ∷ H) c
 dooms-same room e H c m s d =
     subst (Each (λ (r : Piece). IsDoom room (e ∷ H) r c)) (sym s)
     (Each-weaker (λ r. IsDoom room H r c) (λ r. IsDoom room (e ∷ H) r c) (doom-later room e H c m) (doomed H) d)
 
-dooms-without : (n : Name) (room : ℕ) (e : Entry) (H : List Entry) (c : Cause) → IsMute e → doomed (e ∷ H) ≡ without n (doomed H) → DoomsBy room H c →
+dooms-without : (n : Name) (room : ℕ) (e : Entry) (H : List Entry) (c : PostCause) → IsMute e → doomed (e ∷ H) ≡ without n (doomed H) →
+    DoomsBy room H c →
     DoomsBy room (e ∷ H) c
 unfolding without
 dooms-without n room e H c m s d =
@@ -124,18 +127,18 @@ dooms-without n room e H c m s d =
     (Each-filter (λ r. IsDoom room (e ∷ H) r c) (λ r. not (same n r.name)) (doomed H)
     (Each-weaker (λ r. IsDoom room H r c) (λ r. IsDoom room (e ∷ H) r c) (doom-later room e H c m) (doomed H) d))
 
-pub dooms-none : (room : ℕ) (e : Entry) (H : List Entry) (c : Cause) → doomed (e ∷ H) ≡ [] → DoomsBy room (e ∷ H) c
+pub dooms-none : (room : ℕ) (e : Entry) (H : List Entry) (c : PostCause) → doomed (e ∷ H) ≡ [] → DoomsBy room (e ∷ H) c
 dooms-none room e H c s = subst (Each (λ (r : Piece). IsDoom room (e ∷ H) r c)) (sym s) tt
 
-pub dooms-ran : (room : ℕ) (n : Name) (j : ℕ) (H : List Entry) (c : Cause) → DoomsBy room H c → DoomsBy room (Ran n j ∷ H) c
+pub dooms-ran : (room : ℕ) (n : Name) (j : ℕ) (H : List Entry) (c : PostCause) → DoomsBy room H c → DoomsBy room (Ran n j ∷ H) c
 unfolding waiting arrivals flag
 dooms-ran room n j H c d = dooms-same room (Ran n j) H c tt refl d
 
-pub dooms-halted : (room : ℕ) (n : Name) (H : List Entry) (c : Cause) → DoomsBy room H c → DoomsBy room (Halted n ∷ H) c
+pub dooms-halted : (room : ℕ) (n : Name) (H : List Entry) (c : PostCause) → DoomsBy room H c → DoomsBy room (Halted n ∷ H) c
 unfolding waiting arrivals flag
 dooms-halted room n H c d = dooms-same room (Halted n) H c tt refl d
 
-pub dooms-start : (room : ℕ) (n : Name) (H : List Entry) (c : Cause) → DoomsBy room H c → DoomsBy room (Start n ∷ H) c
+pub dooms-start : (room : ℕ) (n : Name) (H : List Entry) (c : PostCause) → DoomsBy room H c → DoomsBy room (Start n ∷ H) c
 dooms-start room n H c d = dooms-without n room (Start n) H c tt (doomed-start n H) d
 
 doomed-quiet : (n : Name) (csw : Csw) (sense : ℕ) (code : Code) (H : List Entry) → is_error code ≡ false →
@@ -143,7 +146,7 @@ doomed-quiet : (n : Name) (csw : Csw) (sense : ℕ) (code : Code) (H : List Entr
 unfolding without flag
 doomed-quiet n csw sense code H e = grind (arith, common_steps, waiting-post, filters-commute, e)
 
-dooms-post : (room : ℕ) (n : Name) (csw : Csw) (sense : ℕ) (code : Code) (H : List Entry) (c : Cause) → is_error code ≡ false →
+dooms-post : (room : ℕ) (n : Name) (csw : Csw) (sense : ℕ) (code : Code) (H : List Entry) (c : PostCause) → is_error code ≡ false →
     DoomsBy room H c → DoomsBy room (Post n csw sense code ∷ H) c
 dooms-post room n csw sense code H c e d = dooms-without n room (Post n csw sense code) H c e (doomed-quiet n csw sense code H e) d
 
@@ -220,28 +223,29 @@ module _ (room : ℕ) (r : Piece) (H : List Entry) where
       let parts = and_parts r.related (flag r.dcb H) both in
       record { related = parts.0; opened = o; flagged = parts.1; by = b parts.1 }
 
-  open-known : (x : Dcb) → IsKnown r.dcb H (Some x) → x.closed ≡ None → is_open r.dcb H ≡ true
+  open-known : (x : DcbEntries) → IsKnown r.dcb H (Some x) → x.closed ≡ None → is_open r.dcb H ≡ true
   open-known x k e =
       let c : is_closed r.dcb H ≡ false = closed-by r.dcb H ∙ ap is_some (k.1 ∙ e) in
       rw (k.0, c) refl
 
-  shut-known : (x : Dcb) (j : ℕ) → IsKnown r.dcb H (Some x) → x.closed ≡ Some j → is_open r.dcb H ≡ false
+  shut-known : (x : DcbEntries) (j : ℕ) → IsKnown r.dcb H (Some x) → x.closed ≡ Some j → is_open r.dcb H ≡ false
   shut-known x j k e =
       let c : is_closed r.dcb H ≡ true = closed-by r.dcb H ∙ ap is_some (k.1 ∙ e) in
       rw (k.0, c) refl
 
-  abbrev Known : Option Dcb → Type 0
+  abbrev Known : Option DcbEntries → Type 0
   Known o = opened_count H ≤ room → IsKnown r.dcb H o
 
-  by_closed : (x : Dcb) (o : Option ℕ) → x.closed ≡ o → Known (Some x) → is_doomed G r ≡ true → IsDoom room G r (arrival_cause (Some x))
+  by_closed : (x : DcbEntries) (o : Option ℕ) → x.closed ≡ o → Known (Some x) → is_doomed G r ≡ true →
+      IsDoom room G r (arrival_cause (Some x))
   by_closed x None e k t = rw e (λ f. arrives-related x.flagged (open-known x (k f) e) t (k f).2)
   by_closed x (Some j) e k t = rw e (λ f. arrives-shut (Some j) (shut-known x j (k f) e) ((k f).1 ∙ e))
 
-  by_known : (o : Option Dcb) → Known o → is_doomed G r ≡ true → IsDoom room G r (arrival_cause o)
+  by_known : (o : Option DcbEntries) → Known o → is_doomed G r ≡ true → IsDoom room G r (arrival_cause o)
   by_known None k t = λ f. let w = k f in arrives-shut None (rw w.0 refl) w.1
   by_known (Some x) k t = by_closed x x.closed refl k t
 
-  pub dooms-arrive : (o : Option Dcb) → doomed H ≡ [] → Known o → DoomsBy room G (arrival_cause o)
+  pub dooms-arrive : (o : Option DcbEntries) → doomed H ≡ [] → Known o → DoomsBy room G (arrival_cause o)
   unfolding waiting arrivals
   dooms-arrive o none k =
       each-last (λ q. IsDoom room G q (arrival_cause o)) (is_doomed G) (λ q. not (has_started q.name H || is_posted q.name H)) r (by_known o k)
@@ -273,7 +277,8 @@ module _ (room : ℕ) (n : Name) (csw : Csw) (sense : ℕ) (code : Code) (H : Li
       picked (is_doomed H) (is_doomed G) (λ r. has_arrived r.name G ≡ true) (λ r. IsDoom room G r (RelatedError (Some k)))
       (λ r a u t few. errs r u t _ refl) (waiting G) (waiting-arrived G) spared
 
-pub dooms-posted : (room : ℕ) (n : Name) (csw : Csw) (sense : ℕ) (code : Code) (H : List Entry) (k : ℕ) (old new : Cause) → k ≡ length H + 1 →
+pub dooms-posted : (room : ℕ) (n : Name) (csw : Csw) (sense : ℕ) (code : Code) (H : List Entry) (k : ℕ) (old new : PostCause) →
+    k ≡ length H + 1 →
     (is_error code ≡ true → ErrorFollows n H) → (is_error code ≡ true → new ≡ RelatedError (Some k)) → (is_error code ≡ false → new ≡ old) →
     DoomsBy room H old → DoomsBy room (Post n csw sense code ∷ H) new
 dooms-posted room n csw sense code H k old new number f error other d =
@@ -283,7 +288,7 @@ dooms-posted room n csw sense code H k old new number f error other d =
     ]
 
 -- the other entries doom nothing
-pub dooms-other : (room : ℕ) (e : Entry) (H : List Entry) (c : Cause) →
+pub dooms-other : (room : ℕ) (e : Entry) (H : List Entry) (c : PostCause) →
     ((d : ℕ) (m : ProcessingMethod) (x : List Extent) → e ≡ Opened d m x → ⊥) → ((r : Piece) → e ≡ Arrive r → ⊥) →
     ((s : Scope) (m : Mode) → e ≡ Purge s m → ⊥) → ((d : ℕ) → e ≡ Close d → ⊥) →
     ((n : Name) (csw : Csw) (sense : ℕ) (code : Code) → e ≡ Post n csw sense code → ⊥) →
@@ -299,7 +304,7 @@ dooms-other room (Reset d) H c o a p k q f w = dooms-none room (Reset d) H c f
 dooms-other room (Post n csw sense code) H c o a p k q f w = absurd (q n csw sense code refl)
 
 -- nothing is doomed before the first entry
-pub dooms-before : (room : ℕ) (es : List Entry) (c : Cause) → DoomsBy room (entries_so_far es 0) c
+pub dooms-before : (room : ℕ) (es : List Entry) (c : PostCause) → DoomsBy room (entries_so_far es 0) c
 unfolding waiting arrivals
 dooms-before room [] c = tt
 dooms-before room (e ∷ es) c = tt

@@ -7,7 +7,7 @@ pub mod Entries
 mod MovedLaws
 pub mod ReplayNext
 pub mod OrderlyLaws
-pub mod PastLaws
+pub mod TraceStateLaws
 pub mod Runs
 pub mod Steps
 pub mod TurnLaws

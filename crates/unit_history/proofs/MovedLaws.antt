@@ -5,22 +5,22 @@ use Rattle.std.proofs.Math.Seq.{drop-cons}
 use Rattle.std.proofs.lemmas.List.{append-nil, drop_all}
 use Rattle.io_area.specs.Storage.{Storage}
 use Rattle.device_port.specs.declared.chain.Segment.{Segment}
-use Rattle.unit_history.specs.declared.moved.Way.{Way}
-use Rattle.unit_history.specs.declared.moved.Way.TheVariants.{From, To, DownFrom}
+use Rattle.unit_history.specs.declared.moved.DataDirection.{DataDirection}
+use Rattle.unit_history.specs.declared.moved.DataDirection.TheVariants.{From, To, DownFrom}
 use Rattle.unit_history.specs.MovedData.{first_moved, is_kept_out, with_later, first_of_part, unless}
 
-with_later-assoc : (way : Way) (a b c : List ℕ) → with_later way (with_later way a b) c ≡ with_later way a (with_later way b c)
+with_later-assoc : (way : DataDirection) (a b c : List ℕ) → with_later way (with_later way a b) c ≡ with_later way a (with_later way b c)
 with_later-assoc From a b c = append_assoc a b c
 with_later-assoc To a b c = append_assoc a b c
 with_later-assoc DownFrom a b c = sym (append_assoc c b a)
 
-with_later-none : (way : Way) (a : List ℕ) → with_later way a [] ≡ a
+with_later-none : (way : DataDirection) (a : List ℕ) → with_later way a [] ≡ a
 with_later-none From a = append-nil a
 with_later-none To a = append-nil a
 with_later-none DownFrom a = refl
 
 -- one more part
-pub moved-on : (way : Way) (m : Storage) (parts : List Segment) (i : ℕ) (d : Segment) (most count : ℕ) (bytes whole : List ℕ) →
+pub moved-on : (way : DataDirection) (m : Storage) (parts : List Segment) (i : ℕ) (d : Segment) (most count : ℕ) (bytes whole : List ℕ) →
     i < length parts → length bytes ≤ most → is_kept_out way (get_or parts i d) ≡ false →
     count ≡ min (get_or parts i d).count (most - length bytes) →
     with_later way bytes (first_moved way m (most - length bytes) (drop i parts)) ≡ whole →
@@ -42,14 +42,14 @@ moved-on way m parts i d most count bytes whole h few kept is told =
     ∙ ap (λ (l : List Segment). with_later way bytes (first_moved way m left l)) (sym cut) ∙ told
 
 -- no part is left
-pub moved-all : (way : Way) (m : Storage) (parts : List Segment) (i left : ℕ) (bytes whole : List ℕ) → length parts ≤ i →
+pub moved-all : (way : DataDirection) (m : Storage) (parts : List Segment) (i left : ℕ) (bytes whole : List ℕ) → length parts ≤ i →
     with_later way bytes (first_moved way m left (drop i parts)) ≡ whole → bytes ≡ whole
 unfolding first_moved
 moved-all way m parts i left bytes whole h told =
     sym (ap (λ (l : List Segment). with_later way bytes (first_moved way m left l)) (drop_all i parts h) ∙ with_later-none way bytes) ∙ told
 
 -- the next part is kept out
-pub moved-until : (way : Way) (m : Storage) (parts : List Segment) (i left : ℕ) (d : Segment) (bytes whole : List ℕ) →
+pub moved-until : (way : DataDirection) (m : Storage) (parts : List Segment) (i left : ℕ) (d : Segment) (bytes whole : List ℕ) →
     i < length parts → is_kept_out way (get_or parts i d) ≡ true →
     with_later way bytes (first_moved way m left (drop i parts)) ≡ whole → bytes ≡ whole
 unfolding first_moved

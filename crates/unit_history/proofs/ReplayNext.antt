@@ -9,7 +9,7 @@ use Rattle.io_images.specs.declared.csw.Csw.{Csw}
 use Rattle.request_piece.specs.declared.piece.Name.{Name}
 use Rattle.unit_book.specs.declared.entry.Entry.{Entry}
 use Rattle.unit_book.specs.declared.entry.Entry.TheVariants.{Opened, Arrive, Start, Ran, Halted, Purge, Close, Reset, Post}
-use Rattle.unit_history.specs.declared.replay.Step.TheVariants.{Entry as Whole}
+use Rattle.unit_history.specs.declared.replay.ReplayStep.TheVariants.{Entry as Whole}
 use Rattle.unit_history.specs.Replayed.{ReplayPlace, place_after, step_to}
 use Rattle.unit_history.proofs.Entries.{IsSilent}
 use Rattle.unit_history.proofs.Steps.{IsWhole}

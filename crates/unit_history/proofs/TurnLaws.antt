@@ -11,7 +11,7 @@ use Rattle.std.specs.Prelude.{slice_get, slice_index_or}
 use Rattle.request_piece.specs.declared.piece.Name.{Name}
 use Rattle.unit_book.specs.declared.entry.Entry.{Entry}
 use Rattle.unit_book.proofs.Lists.{same-refl}
-use Rattle.unit_history.specs.declared.event.Told.{Told}
+use Rattle.unit_history.specs.declared.event.EventKind.{EventKind}
 unfoldable use Rattle.unit_history.specs.Events.{turns}
 use Rattle.unit_history.specs.Events.{TellsEntry, entries_of, turn, turns_by}
 
@@ -60,13 +60,15 @@ turns-few n (e ∷ es) = by_turn (turn n e) (turns-few n es) where
   by_turn (Some j) h = omega (arith, h)
 
 -- an event is of one entry at least
-pub entries-some : (room : ℕ) (H : List Entry) (e : Entry) (es : List Entry) (told : Told) → TellsEntry room H e (e ∷ es) told → 1 ≤ entries_of told
+pub entries-some : (room : ℕ) (H : List Entry) (e : Entry) (es : List Entry) (kind : EventKind) → TellsEntry room H e (e ∷ es) kind →
+    1 ≤ entries_of kind
 unfolding turns
-entries-some room H e es told h = grind (arith, common_steps, same-refl)
+entries-some room H e es kind h = grind (arith, common_steps, same-refl)
 
 -- and of no more than there are
-pub entries-few : (room : ℕ) (H : List Entry) (e : Entry) (es : List Entry) (told : Told) → TellsEntry room H e (e ∷ es) told → entries_of told ≤ length (e ∷ es)
-entries-few room H e es told h = grind (arith, common_steps, turns-few)
+pub entries-few : (room : ℕ) (H : List Entry) (e : Entry) (es : List Entry) (kind : EventKind) → TellsEntry room H e (e ∷ es) kind →
+    entries_of kind ≤ length (e ∷ es)
+entries-few room H e es kind h = grind (arith, common_steps, turns-few)
 
 -- a sum that stops at a largest number
 pub least-more : (m c j s t c' : ℕ) → c' ≡ min (c + j) m → min m (c + (j + s)) ≡ min m t → min m (c' + s) ≡ min m t
@@ -79,23 +81,23 @@ pub sum-cons : (j : ℕ) (js : List ℕ) → sum (j ∷ js) ≡ j + sum js
 sum-cons j js = sum_by-cons (λ x. x) j js
 
 -- THE NEXT EVENT: it is of one entry at least, and of no more than there are
-pub record NextEvent (room : ℕ) (H es : List Entry) (done : ℕ) (e : Entry) (told : Told) : Type 0 where
-  pub some : 1 ≤ entries_of told
-  pub few : done + entries_of told ≤ length es
+pub record NextEvent (room : ℕ) (H es : List Entry) (done : ℕ) (e : Entry) (kind : EventKind) : Type 0 where
+  pub some : 1 ≤ entries_of kind
+  pub few : done + entries_of kind ≤ length es
   pub here : slice_get es done ≡ Some e
-  pub tells : TellsEntry room H e (drop done es) told
+  pub tells : TellsEntry room H e (drop done es) kind
 
-pub next-event : (room : ℕ) (H es : List Entry) (done : ℕ) (e : Entry) (told : Told) → done < length es →
-    e ≡ slice_index_or es done e → TellsEntry room H e (take (length es - done) (drop done es)) told → NextEvent room H es done e told
-next-event room H es done e told below is tells =
+pub next-event : (room : ℕ) (H es : List Entry) (done : ℕ) (e : Entry) (kind : EventKind) → done < length es →
+    e ≡ slice_index_or es done e → TellsEntry room H e (take (length es - done) (drop done es)) kind → NextEvent room H es done e kind
+next-event room H es done e kind below is tells =
     let here = slice_get_read es (length es) done e refl below is in
     let rest = rest-at es done e here in
     let all : take (length es - done) (drop done es) ≡ drop done es = take_all _ _ (rw length-drop (omega arith)) in
-    let t : TellsEntry room H e (drop done es) told = subst (λ xs. TellsEntry room H e xs told) all tells in
-    let u : TellsEntry room H e (e ∷ drop (done + 1) es) told = subst (λ xs. TellsEntry room H e xs told) rest t in
+    let t : TellsEntry room H e (drop done es) kind = subst (λ xs. TellsEntry room H e xs kind) all tells in
+    let u : TellsEntry room H e (e ∷ drop (done + 1) es) kind = subst (λ xs. TellsEntry room H e xs kind) rest t in
     record {
-      some = entries-some room H e (drop (done + 1) es) told u;
-      few = omega (arith, entries-few room H e (drop (done + 1) es) told u, below, length-drop (done + 1) es);
+      some = entries-some room H e (drop (done + 1) es) kind u;
+      few = omega (arith, entries-few room H e (drop (done + 1) es) kind u, below, length-drop (done + 1) es);
       here = here;
       tells = t;
     }

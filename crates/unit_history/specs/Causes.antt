@@ -12,8 +12,9 @@ use Rattle.unit_book.specs.Trace.{active, closes, has_arrived, purges, is_covere
 use Rattle.unit_book.specs.Dcbs.{doomed, flag, is_doomed, is_open, opened_count}
 use Rattle.unit_book.specs.declared.entry.Entry.{Entry}
 use Rattle.unit_book.specs.declared.entry.Entry.TheVariants.{Arrive, Close as CloseEntry, Post, Reset}
-use Rattle.unit_history.specs.declared.event.Cause.{Cause}
-use Rattle.unit_history.specs.declared.event.Cause.TheVariants.{Program, OutsideExtents, Purge, Close, NotOpen, RelatedError, Halt, NotTriedAgain, Unknown}
+use Rattle.unit_history.specs.declared.event.PostCause.{PostCause}
+use Rattle.unit_history.specs.declared.event.PostCause.TheVariants.{Program, OutsideExtents, Purge, Close}
+use Rattle.unit_history.specs.declared.event.PostCause.TheVariants.{NotOpen, RelatedError, Halt, NotTriedAgain, Unknown}
 
 -- AN ENTRY by its number, which counts from 1 in the order of the trace, with those after it and those before it
 pub record EntryAt (H : List Entry) (number : ℕ) : Type 0 where
@@ -43,14 +44,14 @@ pub record PurgedByHalt (was_halted : Bool) (H : List Entry) (n : Name) (code : 
   pub code_is : code ≡ Purged
   pub purge : IsHalting (request_named n H) H number
 
--- it was the first that waits while nothing is active, and failed the extent check
+-- the request failed the extent check: nothing was active, and it was the first one that waited
 pub record FailedCheck (H : List Entry) (n : Name) (code : Code) : Type 0 where
   pub none : active H ≡ None
   pub first : slice_get (waiting H) 0 ≡ Some (request_named n H)
   pub code_is : code ≡ ExtentViolated
 
 -- a cause of what is doomed while it waits
-abbrev pub is_doom : Cause → Bool
+abbrev pub is_doom : PostCause → Bool
 is_doom Program = false
 is_doom OutsideExtents = false
 is_doom (Halt number) = false
@@ -111,9 +112,9 @@ pub record HasRelatedError (H : List Entry) (r : Piece) (post : Option ℕ) : Ty
   pub flagged : flag r.dcb H ≡ true
   pub by : flagged_by r.dcb H ≡ post
 
--- WHY a request is doomed, told by a table with room for this many DCBs. What a table tells of a DCB counts while it has room
+-- WHY a request is doomed, by a table with room for this many DCBs. What a table says of a DCB counts while it has room
 -- for all that were opened.
-abbrev pub IsDoom : ℕ → List Entry → Piece → Cause → Type 0
+abbrev pub IsDoom : ℕ → List Entry → Piece → PostCause → Type 0
 IsDoom room H r (Purge number) = IsPurge H r number
 IsDoom room H r (Close number) = IsClose H r number
 IsDoom room H r (NotOpen close) = opened_count H ≤ room → ArrivedShut H r close
@@ -121,13 +122,13 @@ IsDoom room H r (RelatedError post) = opened_count H ≤ room → HasRelatedErro
 IsDoom room H r _ = ⊥
 
 -- it was doomed while it waited
-pub record WasDoomed (room : ℕ) (cause : Cause) (H : List Entry) (n : Name) (code : Code) : Type 0 where
+pub record WasDoomed (room : ℕ) (cause : PostCause) (H : List Entry) (n : Name) (code : Code) : Type 0 where
   pub inactive : active H ≢ Some n
   pub doom : IsDoom room H (request_named n H) cause
   pub code_is : code ≡ Purged
 
 -- WHY a request is posted with a code, after the entries before
-abbrev pub IsCauseOfPost : ℕ → List Entry → Name → Code → Cause → Type 0
+abbrev pub IsCauseOfPost : ℕ → List Entry → Name → Code → PostCause → Type 0
 IsCauseOfPost room H n code Program = EndedByProgram H n code
 IsCauseOfPost room H n code OutsideExtents = FailedCheck H n code
 IsCauseOfPost room H n code (Halt number) = PurgedByHalt true H n code number
@@ -135,13 +136,13 @@ IsCauseOfPost room H n code (NotTriedAgain number) = PurgedByHalt false H n code
 IsCauseOfPost room H n code cause = WasDoomed room cause H n code
 
 -- the cause for the active request, which was halted or not, with its halting purge
-abbrev pub ended_cause : Code → Bool → Option ℕ → Cause
+abbrev pub ended_cause : Code → Bool → Option ℕ → PostCause
 ended_cause Purged true (Some number) = Halt number
 ended_cause Purged false (Some number) = NotTriedAgain number
 ended_cause Purged was_halted None = Unknown
 ended_cause _ was_halted halting = Program
 
 -- the cause for a request that waits, and that of what is doomed
-abbrev pub waiting_cause : Code → Cause → Cause
+abbrev pub waiting_cause : Code → PostCause → PostCause
 waiting_cause ExtentViolated doom = OutsideExtents
 waiting_cause _ doom = doom

@@ -1,4 +1,4 @@
--- What the events of a unit tell, the device, storage and program at each place of a replay, and the places and the bytes of
+-- What the events of a unit say, the device, storage and program at each position of a replay, and the positions and the bytes of
 -- commands.
 pub mod Causes
 pub mod Commands
@@ -6,7 +6,7 @@ pub mod Dcbs
 pub mod Events
 pub mod MovedData
 pub mod Orderly
-pub mod PastTies
+pub mod TraceStates
 pub mod Places
 pub mod Replayed
 pub mod Ties

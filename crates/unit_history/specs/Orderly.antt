@@ -42,6 +42,7 @@ pub record OpenFollows (d : ℕ) (e : Entry) (H : List Entry) : Type 0 where
   pub next : d ≡ opened_count H + 1
   pub new : is_opened d H ≡ false
 
+-- an entry may follow these entries
 abbrev pub IsAfter : Entry → List Entry → Type 0
 IsAfter (Arrive r) H = (has_arrived r.name H ≡ false) × (doomed H ≡ [])
 IsAfter (Start n) H = StartFollows n H

@@ -1,17 +1,17 @@
--- WHERE A COMMAND WAS: what its place says of the device after the command (profile).
+-- WHERE A COMMAND WAS: what its position says of the device after the command (profile).
 use Rattle.std.specs.Prelude.{◌≡◌, ◌⊎◌, ℕ, ◌+◌, ◌-◌, ◌^◌, Option, Some, None, min, ⊤}
 use Rattle.ckd_disk.specs.Access.{Orientation, at_index, at_count, at_key, at_end}
 use Rattle.ckd_disk.specs.Disk.{DiskState, track_number}
 use Rattle.any_device.specs.declared.device.AnyDevice.{AnyDevice}
 use Rattle.any_device.specs.declared.device.AnyDevice.TheVariants.{Disk, Tape, Printer}
-use Rattle.unit_history.specs.declared.before.Ended.{Ended}
-use Rattle.unit_history.specs.declared.before.Ended.TheVariants.{Normal, Check, Fault}
+use Rattle.unit_history.specs.declared.before.CommandEnd.{CommandEnd}
+use Rattle.unit_history.specs.declared.before.CommandEnd.TheVariants.{Normal, Check, Fault}
 use Rattle.unit_history.specs.declared.place.Passed.{Passed}
-use Rattle.unit_history.specs.declared.place.Place.{Place}
-use Rattle.unit_history.specs.declared.place.Place.TheVariants.{Record, NoRecord, Item, Line}
+use Rattle.unit_history.specs.declared.place.MediumPosition.{MediumPosition}
+use Rattle.unit_history.specs.declared.place.MediumPosition.TheVariants.{Record, NoRecord, Item, Line}
 use Rattle.unit_history.specs.declared.place.RecordPlace.{RecordPlace}
 
--- the place on its track of the record that the heads are after
+-- the position on its track of the record that the heads are after
 abbrev pub record_after : Orientation → Option ℕ
 record_after at_index = None
 record_after (at_count place) = Some place
@@ -29,7 +29,7 @@ pub record IsSearched (disk : DiskState) (passed : Passed) : Type 0 where
   pub here : passed.disk.now ≡ disk
 
 -- a command ended with unit check
-abbrev pub IsCheck : Ended → Type 0
+abbrev pub IsCheck : CommandEnd → Type 0
 IsCheck (Check sense) = ⊤
 IsCheck Normal = ⊥
 IsCheck Fault = ⊥
@@ -40,7 +40,7 @@ IsBeside before number = (number ≡ before) ⊎ (number ≡ min (before + 1) (2
 
 -- WHERE A COMMAND WAS that ended so, by the device after it. A command that met a fault was nowhere. One that ended with unit
 -- check is a search that found no record.
-abbrev pub IsWhere : AnyDevice → Ended → Place → Type 0
+abbrev pub IsWhere : AnyDevice → CommandEnd → MediumPosition → Type 0
 IsWhere (Disk disk) ended (Record place) = (ended ≡ Normal) × IsHere disk place
 IsWhere (Disk disk) ended (NoRecord passed) = IsCheck ended × IsSearched disk passed
 IsWhere (Disk disk) ended (Item number) = ⊥

@@ -5,14 +5,14 @@ use Rattle.device_port.specs.Meaning.{Meaning}
 use Rattle.device_port.specs.declared.chain.Segment.{Segment}
 use Rattle.device_port.specs.declared.kind.Flow.{Flow}
 use Rattle.ccw_programs.specs.declared.fetch.Link.{Link}
-use Rattle.ccw_programs.specs.declared.rule.Refusal.{Refusal}
+use Rattle.ccw_programs.specs.declared.rule.FailedCcw.{FailedCcw}
 use Rattle.ccw_programs.specs.Listings.{Lists}
 use Rattle.ccw_programs.specs.Place.{Place as Standing}
 use Rattle.ccw_programs.specs.Step.{is_running}
 use Rattle.io_area.specs.Storage.{Storage}
 use Rattle.request_piece.specs.declared.piece.Name.{Name}
-use Rattle.unit_history.specs.declared.replay.Step.{Step}
-use Rattle.unit_history.specs.declared.replay.Step.TheVariants.{Command, Entry as Whole, End}
+use Rattle.unit_history.specs.declared.replay.ReplayStep.{ReplayStep}
+use Rattle.unit_history.specs.declared.replay.ReplayStep.TheVariants.{Command, Entry as Whole, End}
 use Rattle.unit_book.specs.Book.{Book}
 use Rattle.unit_book.specs.Media.{area, current, device}
 use Rattle.unit_book.specs.Trace.{active, request_named}
@@ -39,16 +39,17 @@ replayed entries done ran = partly ran (slice_get entries done) (reverse (take d
 abbrev pub so_far : {D : Type 0} → ReplayPlace D → List Entry
 so_far p = replayed (reverse p.book.trace) p.done p.ran
 
--- the place after one more of the commands of an entry
+-- the position after one more of the commands of an entry
 abbrev pub behind_command : {D : Type 0} → ℕ → ReplayPlace D → ReplayPlace D
 behind_command commands p = if p.ran + 1 == commands then record p { done = p.done + 1; ran = 0 } else record p { ran = p.ran + 1 }
 
--- THE NEXT PLACE: after the next entry, or after the next command of an entry of commands; at the end, the same place
+-- THE NEXT POSITION: after the next entry, or after the next command of an entry of commands; at the end, the same position
 abbrev pub place_after : {D : Type 0} → Option Entry → ReplayPlace D → ReplayPlace D
 place_after None p = p
 place_after (Some (Ran n j)) p = behind_command j p
 place_after _ p = record p { done = p.done + 1; ran = 0 }
 
+-- the position after the next entry or command
 abbrev pub next_place : {D : Type 0} → ReplayPlace D → ReplayPlace D
 next_place p = place_after (slice_get (reverse p.book.trace) p.done) p
 
@@ -78,7 +79,7 @@ abbrev pub IsBetweenPrograms : {D : Type 0} → Meaning D → ReplayPlace D → 
 IsBetweenPrograms meaning p = (active (so_far p) ≡ None) ⊎ (is_running (current meaning p.book.mounted (so_far p)).place.state ≡ false)
 
 -- this is what the program of the active request is to do next
-abbrev pub ListsNext : {D : Type 0} → Meaning D → ReplayPlace D → List Link → Option Flow → List Segment → Option Refusal → Type 0
+abbrev pub ListsNext : {D : Type 0} → Meaning D → ReplayPlace D → List Link → Option Flow → List Segment → Option FailedCcw → Type 0
 ListsNext meaning p =
     let now = current meaning p.book.mounted (so_far p) in
     Lists meaning (device meaning p.book.mounted (so_far p)) now.area now.place
@@ -89,7 +90,7 @@ IsFirstStart H (Some (Start n)) = active H ≡ None
 IsFirstStart H _ = ⊥
 
 -- what a step is that goes on to this entry
-abbrev pub step_to : Option Entry → Step
+abbrev pub step_to : Option Entry → ReplayStep
 step_to None = End
 step_to (Some (Ran n j)) = Command
 step_to _ = Whole

@@ -10,7 +10,7 @@ use Rattle.unit_book.specs.Media.{current, device}
 use Rattle.unit_history.specs.declared.attempt.Attempt.{Attempt}
 use Rattle.unit_history.specs.Replayed.{replayed}
 
--- this request has the name, and arrived at a place among entries
+-- this request has the name, and arrived at an index among entries
 abbrev pub ArrivesAt : List Entry → Name → ℕ → Piece → Type 0
 ArrivesAt entries name place r = (slice_get entries place ≡ Some (Arrive r)) × (r.name ≡ name)
 
@@ -28,10 +28,12 @@ module _ {D : Type 0} (meaning : Meaning D) (mounted : D) where
     pub area : a.area ≡ (current meaning mounted H).area
     pub place : a.context ≡ (current meaning mounted H).place
 
+  -- the attempt of the replay is that of the active request
   abbrev pub ReplayActiveTies : List Entry → Option Attempt → Type 0
   ReplayActiveTies H None = active H ≡ None
   ReplayActiveTies H (Some a) = AttemptTies H a
 
+  -- the fields of a replay are those that the entries so far determine
   pub record ReplayTies (entries : List Entry) (done ran : ℕ) (device_now : D) (attempt : Option Attempt) : Type 0 where
     pub few : done ≤ length entries
     pub within : IsWithin ran (slice_get entries done)

@@ -18,7 +18,7 @@ fn arrival(entry: &Entry, name: Name) -> Option<&Issued>
     }
 }
 
-/// The request of this name that arrived among entries, and the place where it did.
+/// The request of this name that arrived among entries, and the index where it did.
 fn find(entries: &[Entry], name: Name) -> Option<(usize, &Issued)>
     ensures { MatchOption result (list_any (arrives name) entries.now ≡ false) (λ found. ArrivesAt entries.now name found.0 found.1.now) }
 {
@@ -30,7 +30,7 @@ fn find(entries: &[Entry], name: Name) -> Option<(usize, &Issued)>
     None
 }
 
-/// The request of this name that arrived among entries, and the place where it did. The search begins at a place, and goes on
+/// The request of this name that arrived among entries, and the index where it did. The search begins at an index, and goes on
 /// before it.
 pub fn find_arrival(entries: &[Entry], from: usize, name: Name) -> Option<(usize, &Issued)>
     ensures { MatchOption result (list_any (arrives name) entries.now ≡ false) (λ found. ArrivesAt entries.now name found.0 found.1.now) }
@@ -44,7 +44,7 @@ pub fn find_arrival(entries: &[Entry], from: usize, name: Name) -> Option<(usize
     Some(found)
 }
 
-/// The request of this name, which arrived among the entries, and its place. The search begins at `from`.
+/// The request of this name, which arrived among the entries, and its index. The search begins at `from`.
 pub(crate) fn arrival_of(entries: &[Entry], from: usize, name: Name) -> (usize, &Issued)
     requires { list_any (arrives name) entries.now ≡ true }
     ensures { ArrivesAt entries.now name result.0 result.1.now }

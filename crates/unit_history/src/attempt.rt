@@ -1,4 +1,4 @@
-//! The attempt that is under way at a place of a replay.
+//! The attempt that is under way at a position of a replay.
 
 ghost use Rattle.std.specs.Prelude.{◌≡◌, ◌≤◌, IfOk};
 ghost use Rattle.ccw_programs.specs.Place.{start_place};

@@ -1,17 +1,17 @@
-//! What has to be known from before a command, and the place of the command.
+//! The state before a command that decides its position on the medium, and that position.
 
 ghost use Rattle.std.specs.Prelude.{◌≡◌, ◌↔◌, IfSome, IsTrue};
 ghost use Rattle.unit_history.specs.Places.{IsWhere};
 
 use crate::disk::{begins, place_on_disk};
-use crate::place::Place;
+use crate::place::MediumPosition;
 use crate::printer::place_on_paper;
 use crate::tape::place_on_tape;
 use any_device::AnyDevice;
 use device_port::Device;
-use line_printer::Position;
+use line_printer::PaperPosition;
 
-/// A device whose commands have places.
+/// A device whose commands have positions.
 pub trait Placed: Device {
     /// Returns the device as one of the three kinds: disk, tape or printer.
     fn as_any(&self) -> &AnyDevice;
@@ -27,12 +27,12 @@ impl Placed for AnyDevice {
 #[derive(Clone, Copy)]
 pub struct Done {
     pub code: u8,
-    pub ended: Ended,
+    pub ended: CommandEnd,
 }
 
-/// How a command ended, as far as its place depends on that.
+/// How a command ended, as far as its position depends on that.
 #[derive(Clone, Copy)]
-pub enum Ended {
+pub enum CommandEnd {
     /// The device did what the command says. Unit exception and incorrect length are among these.
     Normal,
     /// Unit check, with these sense bytes.
@@ -44,9 +44,9 @@ pub enum Ended {
 impl Done {
     /// Whether the device did what the command says.
     pub(crate) fn is_normal(&self) -> bool
-        ensures { IsTrue result ↔ (self.now.ended ≡ Ended.Normal) }
+        ensures { IsTrue result ↔ (self.now.ended ≡ CommandEnd.Normal) }
     {
-        matches!(self.ended, Ended::Normal)
+        matches!(self.ended, CommandEnd::Normal)
     }
 }
 
@@ -56,7 +56,7 @@ pub struct Before {
     /// How many records the searches compared since they began to count index points.
     passed: u64,
     /// Where the paper of a printer was.
-    position: Position,
+    position: PaperPosition,
 }
 
 impl Before {
@@ -64,7 +64,7 @@ impl Before {
     pub fn new() -> Before {
         Before {
             passed: 0,
-            position: Position { page: 1, line: 1 },
+            position: PaperPosition { page: 1, line: 1 },
         }
     }
 
@@ -78,7 +78,7 @@ impl Before {
     }
 
     /// Where a command was, by the device after it. The command is the next one since the last note.
-    pub fn place<'m>(&mut self, device: &'m AnyDevice, done: &Done) -> Option<Place<'m>>
+    pub fn place<'m>(&mut self, device: &'m AnyDevice, done: &Done) -> Option<MediumPosition<'m>>
         ensures { IfSome result (IsWhere device.now done.now.ended) }
     {
         match device {

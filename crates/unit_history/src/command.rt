@@ -3,25 +3,25 @@
 ghost use Rattle.std.specs.Prelude.{IfSome};
 ghost use Rattle.unit_history.specs.MovedData.{ShowsMoved};
 
-use crate::moved::{Moved, Shown, Way};
-use crate::place::Place;
+use crate::moved::{DataDirection, Moved, Shown};
+use crate::place::MediumPosition;
 use ccw_programs::{Context, Link, Listing, Rule, State};
 use io_area::Area;
 use io_images::Csw;
 
 /// A command of a channel program, after it was done.
 #[derive(Drop)]
-pub struct Command<'c> {
+pub struct ExecutedCommand<'c> {
     pub(crate) listing: Listing<'c>,
     pub(crate) context: &'c Context,
     pub(crate) area: &'c Area,
     pub(crate) fault: Option<usize>,
-    pub(crate) place: Option<Place<'c>>,
+    pub(crate) place: Option<MediumPosition<'c>>,
 }
 
 /// A CCW that breaks a rule: its address, its image if it can be fetched, and the rule.
 #[derive(Clone, Copy)]
-pub struct Broken<'c> {
+pub struct BrokenCcw<'c> {
     pub at: u32,
     pub image: Option<&'c [u8]>,
     pub rule: Rule,
@@ -29,7 +29,7 @@ pub struct Broken<'c> {
 
 /// How a command ended: unit status (the high byte) and subchannel status, the residual count, and what comes after it.
 #[derive(Clone, Copy)]
-pub struct Ending {
+pub struct EndingStatus {
     pub status: u16,
     pub residual: u16,
     pub after: After,
@@ -44,7 +44,7 @@ pub enum After {
     Sense(u16),
 }
 
-impl<'c> Command<'c> {
+impl<'c> ExecutedCommand<'c> {
     /// Its CCWs: the command itself, and the CCWs of its data chain.
     pub fn links(&self) -> &'c [Link] {
         self.listing.links
@@ -55,16 +55,16 @@ impl<'c> Command<'c> {
         self.fault
     }
 
-    /// Where on the medium it was, as the medium is after it. None of a command that was at no place of it, that met a fault of
+    /// Where on the medium it was, as the medium is after it. None of a command that was at no position of it, that met a fault of
     /// the unit, or whose CCWs break a rule.
-    pub fn place(&self) -> Option<Place<'c>> {
+    pub fn place(&self) -> Option<MediumPosition<'c>> {
         self.place
     }
 
     /// The rule that a CCW of it breaks. The device did nothing then.
-    pub fn broken(&self) -> Option<Broken<'c>> {
+    pub fn broken(&self) -> Option<BrokenCcw<'c>> {
         let refusal = self.listing.refusal?;
-        Some(Broken {
+        Some(BrokenCcw {
             at: refusal.at,
             image: self.area.get(refusal.at, 8),
             rule: refusal.rule,
@@ -79,7 +79,7 @@ impl<'c> Command<'c> {
         if count == 0 {
             return None;
         }
-        let way = Way::of(self.listing.flow);
+        let way = DataDirection::of(self.listing.flow);
         let parts = self.listing.parts;
         let [part, ..] = parts else {
             return None;
@@ -96,7 +96,7 @@ impl<'c> Command<'c> {
     }
 
     /// How it ended.
-    pub fn ending(&self) -> Ending {
+    pub fn ending(&self) -> EndingStatus {
         match self.context.state() {
             State::Running => {
                 let next = self.context.next();
@@ -109,11 +109,11 @@ impl<'c> Command<'c> {
 }
 
 /// How a command ended that stored this CSW, with these bits of unit status too.
-fn ending_of(csw: &Csw, modifier: u16, after: After) -> Ending {
+fn ending_of(csw: &Csw, modifier: u16, after: After) -> EndingStatus {
     let mut image = [0; 8];
     csw.write(&mut image);
     let [_, _, _, _, unit, subchannel, high, low] = image;
-    Ending {
+    EndingStatus {
         status: u16::from_be_bytes([unit, subchannel]) | modifier,
         residual: u16::from_be_bytes([high, low]),
         after,

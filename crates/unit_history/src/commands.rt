@@ -6,9 +6,9 @@ ghost use Rattle.unit_book.specs.Trace.{active};
 ghost use Rattle.unit_history.specs.Commands.{Describes, GivesNext, IsUnreplayed, PassesEntry, StartsNext, place_behind};
 
 use crate::before::{Before, Placed};
-use crate::command::Command;
+use crate::command::ExecutedCommand;
 use crate::done::done;
-use crate::place::Place;
+use crate::place::MediumPosition;
 use crate::replay::Replay;
 use ccw_programs::{Listing, Workspace};
 use device_port::{Device, Fault};
@@ -27,7 +27,7 @@ pub struct CommandList<'f> {
 #[derive(Drop)]
 pub struct Commands<'t, D: Device> {
     replay: Replay<'t, D>,
-    /// What the place of the next command depends on.
+    /// What the position of the next command depends on.
     before: Before,
     faults: &'t [Fault],
     /// How many of the faults were met.
@@ -45,7 +45,7 @@ pub struct Commands<'t, D: Device> {
 pub struct Replayed<'w> {
     listing: Listing<'w>,
     fault: Option<usize>,
-    /// What its place depends on.
+    /// What its position depends on.
     before: Before,
 }
 
@@ -146,7 +146,7 @@ impl<'t, D: Placed> Commands<'t, D> {
 
     /// Describes the command that was replayed last: its CCWs and data areas, its program and storage after it, and where it
     /// was on the medium. Returns `None` if no request is active after it.
-    pub fn describe<'c>(&'c self, replayed: Replayed<'c>) -> Option<Command<'c>>
+    pub fn describe<'c>(&'c self, replayed: Replayed<'c>) -> Option<ExecutedCommand<'c>>
         ensures { MatchOption result (active (so_far self.now.replay) ≡ None) (λ command. Describes D.meaning self.now.replay replayed.entry command) }
     {
         let Replayed {
@@ -157,7 +157,7 @@ impl<'t, D: Placed> Commands<'t, D> {
         let context = self.replay.context()?;
         let area = self.replay.area()?;
         let place = place_of(&self.replay, &mut before, &listing, fault);
-        Some(Command {
+        Some(ExecutedCommand {
             listing,
             context,
             area,
@@ -173,7 +173,7 @@ fn place_of<'c, D: Placed>(
     before: &mut Before,
     listing: &Listing<'_>,
     fault: Option<usize>,
-) -> Option<Place<'c>> {
+) -> Option<MediumPosition<'c>> {
     let done = done(listing, replay.context()?, fault)?;
     before.place(replay.device().as_any(), &done)
 }

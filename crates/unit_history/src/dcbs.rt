@@ -1,4 +1,4 @@
-//! The DCBs of a unit, at each place of its trace: which entry closed one, and which set its error flag.
+//! The DCBs of a unit, at each index of its trace: which entry closed one, and which set its error flag.
 
 ghost use Rattle.std.specs.Prelude.{◌≡◌, ◌≤◌, All, IfOk, length, vec_len};
 ghost use Rattle.std.specs.List.{filter};
@@ -13,13 +13,13 @@ use unit_book::{Entry, UnitBook};
 /// What is known of a DCB that was opened: the numbers of the entry that closed it, and of the post that last set its error
 /// flag.
 #[derive(Clone, Copy)]
-struct Dcb {
+struct DcbEntries {
     closed: Option<usize>,
     flagged: Option<usize>,
 }
 
 /// A DCB that is open, and without error.
-const OPENED: Dcb = Dcb {
+const OPENED: DcbEntries = DcbEntries {
     closed: None,
     flagged: None,
 };
@@ -28,7 +28,7 @@ const OPENED: Dcb = Dcb {
 /// opened before it.
 #[derive(Drop)]
 pub struct Dcbs {
-    rows: Vec<Dcb>,
+    rows: Vec<DcbEntries>,
     opened: usize,
 }
 
@@ -114,14 +114,14 @@ impl Dcbs {
     }
 
     /// A DCB that was opened.
-    fn get(&self, dcb: u16) -> Option<Dcb>
+    fn get(&self, dcb: u16) -> Option<DcbEntries>
         ensures { result ≡ known_at dcb self.now }
     {
         let place = self.place(dcb)?;
         Some(self.rows[place])
     }
 
-    /// The place of a DCB, if it was opened.
+    /// The index of a DCB, if it was opened.
     fn place(&self, dcb: u16) -> Option<usize>
         ensures { result ≡ dcb_place dcb (vec_len self.now.rows) self.now.opened }
     {

@@ -4,11 +4,11 @@ ghost use Rattle.std.specs.Prelude.{◌≡◌, IfSome, IsTrue, option_map};
 ghost use Rattle.ckd_disk.specs.Access.{orientation_of};
 ghost use Rattle.ckd_disk.specs.Disk.{track_number};
 ghost use Rattle.any_device.specs.declared.device.AnyDevice.TheVariants.{Disk as AsDisk};
-ghost use Rattle.unit_history.specs.declared.before.Ended.TheVariants.{Normal};
+ghost use Rattle.unit_history.specs.declared.before.CommandEnd.TheVariants.{Normal};
 ghost use Rattle.unit_history.specs.Places.{IsCheck, IsWhere, record_after};
 
-use crate::before::{Done, Ended};
-use crate::place::{Passed, Place, RecordPlace};
+use crate::before::{CommandEnd, Done};
+use crate::place::{MediumPosition, Passed, RecordPlace};
 use ckd_disk::command::{Command, Read, Write};
 use ckd_disk::{Armed, Disk, Orientation, Spot};
 use device_port::{Device, NO_RECORD_FOUND};
@@ -34,7 +34,11 @@ pub(crate) fn begins(disk: &Disk) -> bool {
 }
 
 /// The record of a command that was done, by the disk after it. `passed` counts the records that searches compared.
-pub(crate) fn place_on_disk<'m>(disk: &'m Disk, done: &Done, passed: &mut u64) -> Option<Place<'m>>
+pub(crate) fn place_on_disk<'m>(
+    disk: &'m Disk,
+    done: &Done,
+    passed: &mut u64,
+) -> Option<MediumPosition<'m>>
     ensures { IfSome result (IsWhere (AsDisk disk.now) done.now.ended) }
 {
     let compared = *passed;
@@ -53,7 +57,7 @@ pub(crate) fn place_on_disk<'m>(disk: &'m Disk, done: &Done, passed: &mut u64) -
         return None;
     }
     let (cylinder, head) = track(disk)?;
-    Some(Place::NoRecord(Passed {
+    Some(MediumPosition::NoRecord(Passed {
         cylinder,
         head,
         passed: compared,
@@ -63,12 +67,12 @@ pub(crate) fn place_on_disk<'m>(disk: &'m Disk, done: &Done, passed: &mut u64) -
 }
 
 /// Whether a search ended because it found no record.
-fn is_not_found(ended: Ended) -> bool
+fn is_not_found(ended: CommandEnd) -> bool
     ensures { IsTrue result → IsCheck ended }
 {
     match ended {
-        Ended::Check(sense) => sense & NO_RECORD_FOUND != 0,
-        Ended::Normal | Ended::Fault => false,
+        CommandEnd::Check(sense) => sense & NO_RECORD_FOUND != 0,
+        CommandEnd::Normal | CommandEnd::Fault => false,
     }
 }
 
@@ -102,14 +106,14 @@ fn track(disk: &Disk) -> Option<(u16, u16)>
 }
 
 /// The record after which the heads are.
-fn record(disk: &Disk, is_equal: Option<bool>) -> Option<Place<'_>>
+fn record(disk: &Disk, is_equal: Option<bool>) -> Option<MediumPosition<'_>>
     ensures { IfSome result (IsWhere (AsDisk disk.now) Normal) }
 {
     let (cylinder, head) = track(disk)?;
     let spot = spot(disk.access().orientation)?;
     let bytes = image(disk)?.get(spot.offset..)?;
     let key_length = usize::from(*bytes.get(KEY_LENGTH)?);
-    Some(Place::Record(RecordPlace {
+    Some(MediumPosition::Record(RecordPlace {
         cylinder,
         head,
         nth: spot.place,

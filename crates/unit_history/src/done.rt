@@ -1,6 +1,6 @@
-//! How a command ended, as far as its place on the medium depends on that.
+//! How a command ended, as far as its position on the medium depends on that.
 
-use crate::before::{Done, Ended};
+use crate::before::{CommandEnd, Done};
 use ccw_programs::{Context, Listing, State};
 
 /// Unit check, a bit of unit status (Principles of Operation, chapter 16, "Device-Status Field").
@@ -18,10 +18,10 @@ pub(crate) fn done(listing: &Listing<'_>, context: &Context, fault: Option<usize
     })
 }
 
-fn ended(state: State, fault: Option<usize>) -> Ended {
+fn ended(state: State, fault: Option<usize>) -> CommandEnd {
     match state {
-        _ if fault.is_some() => Ended::Fault,
-        State::Ended(csw, sense) if csw.unit.0 & UNIT_CHECK != 0 => Ended::Check(sense),
-        State::Running | State::Ended(_, _) => Ended::Normal,
+        _ if fault.is_some() => CommandEnd::Fault,
+        State::Ended(csw, sense) if csw.unit.0 & UNIT_CHECK != 0 => CommandEnd::Check(sense),
+        State::Running | State::Ended(_, _) => CommandEnd::Normal,
     }
 }

@@ -1,4 +1,4 @@
-//! What a history tells of an entry.
+//! What a history says of an entry.
 
 use io_images::Extent;
 use post_lines::End;
@@ -7,15 +7,15 @@ use unit_book::{Mode, ProcessingMethod};
 
 /// An event of a unit: an entry of its trace, or the turns of a program that follow one another.
 #[derive(Clone, Copy)]
-pub struct Event<'t> {
+pub struct UnitEvent<'t> {
     /// The number of its entry, from 1. Of turns it is the number of the first.
     pub entry: usize,
-    pub told: Told<'t>,
+    pub kind: EventKind<'t>,
 }
 
-/// What happened, and what the entries before it leave to be known of it.
+/// What happened, and what follows from the entries before it.
 #[derive(Clone, Copy)]
-pub enum Told<'t> {
+pub enum EventKind<'t> {
     Opened {
         dcb: u16,
         method: ProcessingMethod,
@@ -50,14 +50,14 @@ pub enum Told<'t> {
     Posted {
         name: Name,
         end: End,
-        cause: Cause,
+        cause: PostCause,
         sets_flag: bool,
     },
 }
 
 /// Why a request was posted, with the number of the entry that brought it about, if there is one.
 #[derive(Clone, Copy)]
-pub enum Cause {
+pub enum PostCause {
     /// Its program ended.
     Program,
     /// Its disk address is outside the extents of its DCB.
@@ -78,30 +78,30 @@ pub enum Cause {
     Unknown,
 }
 
-impl Cause {
+impl PostCause {
     /// The number of the entry that brought it about.
     pub fn entry(self) -> Option<usize> {
         match self {
-            Cause::Program | Cause::OutsideExtents | Cause::Unknown => None,
-            Cause::Purge(entry)
-            | Cause::Close(entry)
-            | Cause::Halt(entry)
-            | Cause::NotTriedAgain(entry) => Some(entry),
-            Cause::NotOpen(entry) | Cause::RelatedError(entry) => entry,
+            PostCause::Program | PostCause::OutsideExtents | PostCause::Unknown => None,
+            PostCause::Purge(entry)
+            | PostCause::Close(entry)
+            | PostCause::Halt(entry)
+            | PostCause::NotTriedAgain(entry) => Some(entry),
+            PostCause::NotOpen(entry) | PostCause::RelatedError(entry) => entry,
         }
     }
 
     /// Why it was not started or not ended by its program, in words.
     pub fn in_words(self) -> Option<&'static str> {
         match self {
-            Cause::Program | Cause::Unknown => None,
-            Cause::OutsideExtents => Some("its disk address is outside the extents"),
-            Cause::Purge(_) => Some("purged"),
-            Cause::Close(_) => Some("its DCB was closed"),
-            Cause::NotOpen(_) => Some("its DCB is not open"),
-            Cause::RelatedError(_) => Some("a related request ended in error"),
-            Cause::Halt(_) => Some("halted"),
-            Cause::NotTriedAgain(_) => Some("not tried again"),
+            PostCause::Program | PostCause::Unknown => None,
+            PostCause::OutsideExtents => Some("its disk address is outside the extents"),
+            PostCause::Purge(_) => Some("purged"),
+            PostCause::Close(_) => Some("its DCB was closed"),
+            PostCause::NotOpen(_) => Some("its DCB is not open"),
+            PostCause::RelatedError(_) => Some("a related request ended in error"),
+            PostCause::Halt(_) => Some("halted"),
+            PostCause::NotTriedAgain(_) => Some("not tried again"),
         }
     }
 
@@ -109,7 +109,7 @@ impl Cause {
     pub fn is_before_start(self) -> bool {
         !matches!(
             self,
-            Cause::Program | Cause::Halt(_) | Cause::NotTriedAgain(_)
+            PostCause::Program | PostCause::Halt(_) | PostCause::NotTriedAgain(_)
         )
     }
 }

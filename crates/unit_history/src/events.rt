@@ -5,11 +5,11 @@ ghost use Rattle.std.specs.Iterator.{at_most};
 ghost use Rattle.unit_history.specs.Dcbs.{room_of};
 ghost use Rattle.unit_history.specs.Events.{GivesEvent, TellsEntry, entries_of, most_commands, turn, turns};
 ghost use Rattle.unit_history.specs.Orderly.{IsAfter};
-ghost use Rattle.unit_history.specs.PastTies.{Knows, before, room_past};
+ghost use Rattle.unit_history.specs.TraceStates.{Knows, before, room_of_state};
 
 use crate::dcbs::Dcbs;
-use crate::event::{Event, Told};
-use crate::past::Past;
+use crate::event::{EventKind, UnitEvent};
+use crate::trace_state::TraceState;
 use device_port::Device;
 use post_lines::End;
 use request_piece::Name;
@@ -19,7 +19,7 @@ use unit_book::{Entry, UnitBook};
 /// The events of a unit, oldest first. Turns of a program that follow one another are one event.
 #[derive(Drop)]
 pub struct Events<'t, 'd> {
-    past: Past<'t, 'd>,
+    state: TraceState<'t, 'd>,
 }
 
 impl<'t, 'd> Model for Events<'t, 'd> {
@@ -27,15 +27,15 @@ impl<'t, 'd> Model for Events<'t, 'd> {
 
     ghost Value = { EventsPlace };
 
-    ghost use Rattle.unit_history.specs.PastTies.{Knows, room_past};
+    ghost use Rattle.unit_history.specs.TraceStates.{Knows, room_of_state};
 
-    ghost view = { λ events. record { entries = events.past.trace.now; done = events.past.done; room = room_past events.past } };
+    ghost view = { λ events. record { entries = events.state.trace.now; done = events.state.done; room = room_of_state events.state } };
 
-    ghost invariant = { λ events. Knows events.past };
+    ghost invariant = { λ events. Knows events.state };
 }
 
 impl<'t, 'd> Events<'t, 'd> {
-    /// The events of a book. What they tell of DCBs counts while the table has room for those that the trace opens.
+    /// The events of a book. What they say of DCBs counts while the table has room for those that the trace opens.
     pub fn of<D: Device>(book: &'t UnitBook<D>, dcbs: &'d mut Dcbs) -> Events<'t, 'd>
         ensures trace { reverse result.entries ≡ book.now.trace }
         ensures start { result.done ≡ 0 }
@@ -43,53 +43,53 @@ impl<'t, 'd> Events<'t, 'd> {
     {
         book.holds();
         Events {
-            past: Past::new(book.trace(), dcbs),
+            state: TraceState::new(book.trace(), dcbs),
         }
     }
 }
 
-/// What the next entry tells, with the entries from it on.
-fn told<'t>(past: &Past<'t, '_>, entry: &'t Entry, later: &[Entry]) -> Told<'t>
-    requires knows { Knows past.now }
-    requires follows { IsAfter entry.now (before past.now) }
-    ensures { TellsEntry (room_past past.now) (before past.now) entry.now later.now result }
+/// What the next entry says, with the entries from it on.
+fn event_kind<'t>(state: &TraceState<'t, '_>, entry: &'t Entry, later: &[Entry]) -> EventKind<'t>
+    requires knows { Knows state.now }
+    requires follows { IsAfter entry.now (before state.now) }
+    ensures { TellsEntry (room_of_state state.now) (before state.now) entry.now later.now result }
 {
     match entry {
-        Entry::Opened(dcb, method, extents) => Told::Opened {
+        Entry::Opened(dcb, method, extents) => EventKind::Opened {
             dcb: *dcb,
             method: *method,
             extents: extents.as_slice(),
         },
-        Entry::Arrive(issued) => Told::Arrived(issued),
-        Entry::Start(name) => Told::Started {
+        Entry::Arrive(issued) => EventKind::Arrived(issued),
+        Entry::Start(name) => EventKind::Started {
             name: *name,
-            attempt: past.attempt(*name),
+            attempt: state.attempt(*name),
         },
         Entry::Ran(name, _) => ran(*name, later),
-        Entry::Halted(name) => Told::Halted(*name),
-        Entry::Purge(scope, mode) => Told::Purged {
+        Entry::Halted(name) => EventKind::Halted(*name),
+        Entry::Purge(scope, mode) => EventKind::Purged {
             scope: *scope,
             mode: *mode,
-            active: past.active(),
+            active: state.active(),
         },
-        Entry::Close(dcb) => Told::Closed { dcb: *dcb },
-        Entry::Reset(dcb) => Told::Reset { dcb: *dcb },
-        Entry::Post(name, csw, sense, code) => Told::Posted {
+        Entry::Close(dcb) => EventKind::Closed { dcb: *dcb },
+        Entry::Reset(dcb) => EventKind::Reset { dcb: *dcb },
+        Entry::Post(name, csw, sense, code) => EventKind::Posted {
             name: *name,
             end: End {
                 code: *code,
                 csw: *csw,
                 sense: *sense,
             },
-            cause: past.cause(*name, *code),
-            sets_flag: past.sets_flag(*name, *code),
+            cause: state.cause(*name, *code),
+            sets_flag: state.sets_flag(*name, *code),
         },
     }
 }
 
 /// The turns of a request that these entries begin with.
-fn ran<'t>(name: Name, entries: &[Entry]) -> Told<'t>
-    ensures { result ≡ Told.Ran name (min most_commands (sum (turns name entries.now))) (length (turns name entries.now)) }
+fn ran<'t>(name: Name, entries: &[Entry]) -> EventKind<'t>
+    ensures { result ≡ EventKind.Ran name (min most_commands (sum (turns name entries.now))) (length (turns name entries.now)) }
 {
     let mut commands: u64 = 0;
     let mut turns: u64 = 0;
@@ -100,7 +100,7 @@ fn ran<'t>(name: Name, entries: &[Entry]) -> Told<'t>
         commands = with_turn(commands, count);
         turns += 1;
     }
-    Told::Ran {
+    EventKind::Ran {
         name,
         commands,
         turns,
@@ -125,41 +125,41 @@ fn turn(entry: &Entry, name: Name) -> Option<u32>
 }
 
 /// Goes on after the entries of the next event, whose first entry is this one.
-fn go_on<'t>(past: &mut Past<'t, '_>, entry: &'t Entry, told: &Told<'t>)
-    requires knows { Knows past.old }
-    requires next { slice_get past.old.trace.now past.old.done ≡ Some entry.now }
-    requires follows { IsAfter entry.now (before past.old) }
-    requires told { TellsEntry (room_past past.old) (before past.old) entry.now (drop past.old.done past.old.trace.now) told.now }
-    ensures knows { Knows past.new }
-    ensures trace { past.new.trace.now ≡ past.old.trace.now }
-    ensures done { past.new.done ≡ past.old.done + entries_of told.now }
-    ensures room { room_past past.new ≡ room_past past.old }
+fn go_on<'t>(state: &mut TraceState<'t, '_>, entry: &'t Entry, kind: &EventKind<'t>)
+    requires knows { Knows state.old }
+    requires next { slice_get state.old.trace.now state.old.done ≡ Some entry.now }
+    requires follows { IsAfter entry.now (before state.old) }
+    requires kind { TellsEntry (room_of_state state.old) (before state.old) entry.now (drop state.old.done state.old.trace.now) kind.now }
+    ensures knows { Knows state.new }
+    ensures trace { state.new.trace.now ≡ state.old.trace.now }
+    ensures done { state.new.done ≡ state.old.done + entries_of kind.now }
+    ensures room { room_of_state state.new ≡ room_of_state state.old }
 {
-    match told {
-        Told::Ran { name, turns, .. } => past.pass(*name, *turns as usize),
-        _ => past.note(entry),
+    match kind {
+        EventKind::Ran { name, turns, .. } => state.pass(*name, *turns as usize),
+        _ => state.note(entry),
     }
 }
 
 impl<'t, 'd> Iterator for Events<'t, 'd> {
-    type Item = Event<'t>;
+    type Item = UnitEvent<'t>;
 
     ghost next_gives = { GivesEvent };
 
     ghost remaining = { λ events. at_most (length events.entries - events.done) };
 
-    fn next(&mut self) -> Option<Event<'t>> {
-        let entries = self.past.trace;
-        let done = self.past.done;
+    fn next(&mut self) -> Option<UnitEvent<'t>> {
+        let entries = self.state.trace;
+        let done = self.state.done;
         if done >= entries.len() {
             return None;
         }
         let entry = &entries[done];
-        let told = told(&self.past, entry, &entries[done..]);
-        go_on(&mut self.past, entry, &told);
-        Some(Event {
+        let kind = event_kind(&self.state, entry, &entries[done..]);
+        go_on(&mut self.state, entry, &kind);
+        Some(UnitEvent {
             entry: done + 1,
-            told,
+            kind,
         })
     }
 }

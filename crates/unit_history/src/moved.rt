@@ -18,7 +18,7 @@ pub type FirstBytes = ArrayVec<u8, SHOWN>;
 #[derive(Drop)]
 pub struct Moved {
     pub count: u32,
-    pub way: Way,
+    pub way: DataDirection,
     /// Where the first part of its storage begins. A read backward fills it downward.
     pub address: u32,
     pub bytes: Shown,
@@ -26,9 +26,9 @@ pub struct Moved {
     pub has_more: bool,
 }
 
-/// The way of data.
+/// The direction of data.
 #[derive(Clone, Copy, PartialEq, Eq)]
-pub enum Way {
+pub enum DataDirection {
     /// From storage to the device.
     From,
     /// From the device to storage.
@@ -49,22 +49,22 @@ pub enum Shown {
     Outside,
 }
 
-impl Way {
-    /// The way of a flow.
-    pub(crate) fn of(flow: Option<Flow>) -> Way
+impl DataDirection {
+    /// The direction of a flow.
+    pub(crate) fn of(flow: Option<Flow>) -> DataDirection
         ensures { result ≡ way_of flow }
     {
         match flow {
-            Some(Flow::Out) => Way::From,
-            Some(Flow::Back) => Way::DownFrom,
-            _ => Way::To,
+            Some(Flow::Out) => DataDirection::From,
+            Some(Flow::Back) => DataDirection::DownFrom,
+            _ => DataDirection::To,
         }
     }
 }
 
 impl Shown {
     /// What is shown of `count` bytes that moved between a device and these parts of an area.
-    pub(crate) fn of(way: Way, area: &Area, parts: &[Segment], count: u32) -> Shown
+    pub(crate) fn of(way: DataDirection, area: &Area, parts: &[Segment], count: u32) -> Shown
         ensures { IsShown way area.now (min most_shown count) parts.now result }
     {
         match parts {
@@ -89,7 +89,12 @@ impl Shown {
 
 /// The first `most` bytes of parts, up to the first part that the skip flag keeps from storage. `None` if a part lies outside the
 /// area.
-fn first_moved(way: Way, area: &Area, parts: &[Segment], most: usize) -> Option<FirstBytes>
+fn first_moved(
+    way: DataDirection,
+    area: &Area,
+    parts: &[Segment],
+    most: usize,
+) -> Option<FirstBytes>
     requires { most ≤ most_shown }
     ensures { MatchOption result (IsOutside way area.now parts.now) (λ bytes. bytes.items ≡ first_moved way area.now most parts.now) }
 {
@@ -106,24 +111,29 @@ fn first_moved(way: Way, area: &Area, parts: &[Segment], most: usize) -> Option<
 
 /// Whether the skip flag keeps the bytes of a part from storage. It counts for bytes that a device gives (Principles of Operation,
 /// chapter 15, "Skipping").
-fn is_kept_out(way: Way, part: &Segment) -> bool
+fn is_kept_out(way: DataDirection, part: &Segment) -> bool
     ensures { result ≡ is_kept_out way part.now }
 {
     match way {
-        Way::From => false,
-        Way::To | Way::DownFrom => part.skip,
+        DataDirection::From => false,
+        DataDirection::To | DataDirection::DownFrom => part.skip,
     }
 }
 
 /// The first `count` bytes of a part, in the order of their addresses.
-fn first_of_part<'a>(way: Way, area: &'a Area, part: &Segment, count: usize) -> Option<&'a [u8]>
+fn first_of_part<'a>(
+    way: DataDirection,
+    area: &'a Area,
+    part: &Segment,
+    count: usize,
+) -> Option<&'a [u8]>
     requires has { count ≤ part.now.count }
     requires few { count ≤ most_shown }
     ensures { MatchOption result (lies way area.now part.now ≡ false) (λ bytes. (bytes.now ≡ first_of_part way area.now part.now count) × (length bytes.now ≡ count)) }
 {
     match way {
-        Way::From | Way::To => area.get(part.address, count),
-        Way::DownFrom => {
+        DataDirection::From | DataDirection::To => area.get(part.address, count),
+        DataDirection::DownFrom => {
             let Some(below) = count.checked_sub(1) else {
                 return Some(&[]);
             };
@@ -133,14 +143,14 @@ fn first_of_part<'a>(way: Way, area: &'a Area, part: &Segment, count: usize) -> 
 }
 
 /// These bytes and those that move after them, in the order of their addresses.
-fn with_later(way: Way, bytes: &FirstBytes, after: &[u8]) -> FirstBytes
+fn with_later(way: DataDirection, bytes: &FirstBytes, after: &[u8]) -> FirstBytes
     requires { array_vec_len bytes.now + length after.now ≤ most_shown }
     ensures bytes { result.items ≡ with_later way bytes.now.items after.now }
     ensures length { array_vec_len result ≡ array_vec_len bytes.now + length after.now }
 {
     match way {
-        Way::From | Way::To => both(bytes.as_slice(), after),
-        Way::DownFrom => both(after, bytes.as_slice()),
+        DataDirection::From | DataDirection::To => both(bytes.as_slice(), after),
+        DataDirection::DownFrom => both(after, bytes.as_slice()),
     }
 }
 

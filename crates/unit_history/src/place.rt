@@ -1,11 +1,11 @@
 //! Places on a medium.
 
 use ckd_disk::Disk;
-use line_printer::Position;
+use line_printer::PaperPosition;
 
 /// Where on its medium a command was.
 #[derive(Clone, Copy)]
-pub enum Place<'m> {
+pub enum MediumPosition<'m> {
     /// A record that was compared, read or written.
     Record(RecordPlace<'m>),
     /// A search that found no record.
@@ -13,7 +13,7 @@ pub enum Place<'m> {
     /// The item of a tape with this number, from 1.
     Item(usize),
     /// A line of a printer.
-    Line(Position),
+    Line(PaperPosition),
 }
 
 /// A record of a disk that a command compared, read or wrote, as it is after the command.
@@ -21,7 +21,7 @@ pub enum Place<'m> {
 pub struct RecordPlace<'m> {
     pub cylinder: u16,
     pub head: u16,
-    /// Its place on the track. R0 has place 0.
+    /// Its position on the track. R0 has position 0.
     pub nth: usize,
     /// Its CCHHR, 5 bytes.
     pub id: &'m [u8],

@@ -1,4 +1,4 @@
-//! A replay, and its place in a trace.
+//! A replay, and its position in a trace.
 
 ghost use Rattle.std.specs.Prelude.{◌≡◌, ◌<◌, ◌+◌, IfOk, MatchOption, OnOk, OnErr, Some, length, reverse, slice_get};
 ghost use Rattle.std.specs.Option.{option_copied};
@@ -17,7 +17,7 @@ use std::alloc::AllocError;
 use std::marker::Model;
 use unit_book::{Entry, UnitBook};
 
-/// A replay of the trace of a book, and its place there: after a number of entries, oldest first, and a number of
+/// A replay of the trace of a book, and its position there: after a number of entries, oldest first, and a number of
 /// commands of the next one.
 #[derive(Drop)]
 pub struct Replay<'t, D: Device> {
@@ -33,7 +33,7 @@ pub struct Replay<'t, D: Device> {
 
 /// What a step of a replay was: one command of an entry, a whole entry of another kind, or nothing, at the end.
 #[derive(Clone, Copy, PartialEq, Eq)]
-pub enum Step {
+pub enum ReplayStep {
     Command,
     Entry,
     End,
@@ -75,14 +75,14 @@ impl<'t, D: Device> Replay<'t, D> {
         self.done
     }
 
-    /// The device with its medium at this place.
+    /// The device with its medium at this position.
     pub fn device(&self) -> &D
         ensures { result.now ≡ device D.meaning self.now.book.mounted (so_far self.now) }
     {
         &self.device
     }
 
-    /// The storage of the active request at this place.
+    /// The storage of the active request at this position.
     pub fn area(&self) -> Option<&Area>
         ensures { ShowsArea D.meaning self.now (option_copied result) }
     {
@@ -93,7 +93,7 @@ impl<'t, D: Device> Replay<'t, D> {
         }
     }
 
-    /// The position of the active request's program at this place.
+    /// The position of the active request's program at this position.
     pub fn context(&self) -> Option<&Context>
         ensures { ShowsContext D.meaning self.now (option_copied result) }
     {
@@ -119,7 +119,7 @@ impl<'t, D: Device> Replay<'t, D> {
 
     /// Replays the next entry, or the next command of an entry of commands. Returns which of these it was. Stays if all
     /// entries were replayed. Allocates only at the first start of a request.
-    pub fn step(&mut self) -> Result<Step, AllocError>
+    pub fn step(&mut self) -> Result<ReplayStep, AllocError>
         ensures ok { OnOk result (self.new ≡ next_place self.old) }
         ensures kind { IfOk result (λ step. step ≡ step_to (slice_get (reverse self.old.book.trace) self.old.done)) }
         ensures err { OnErr result (self.new ≡ self.old) }
@@ -129,19 +129,19 @@ impl<'t, D: Device> Replay<'t, D> {
         book.holds();
         let entries = book.trace();
         if self.done >= entries.len() {
-            return Ok(Step::End);
+            return Ok(ReplayStep::End);
         }
         let next = self.done + 1;
         match &entries[self.done] {
             Entry::Ran(_, commands) => {
                 self.run(*commands, next);
-                return Ok(Step::Command);
+                return Ok(ReplayStep::Command);
             }
             Entry::Start(name) => self.start(*name, next)?,
             Entry::Post(name, _, _, _) => self.post(*name, next),
             _ => self.done = next,
         }
-        Ok(Step::Entry)
+        Ok(ReplayStep::Entry)
     }
 
     /// Does one more of the `commands` commands of an entry.

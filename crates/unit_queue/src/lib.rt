@@ -1,4 +1,4 @@
-//! The requests that wait for a unit, in order of arrival, in a ring whose room is made once.
+//! The requests that wait for a unit, in order of arrival, in a ring that is allocated once.
 //!
 //! Tests: tests/library/out_of_memory.c, tests/cases/scenarios.
 #![tactic(auto)]

@@ -50,7 +50,7 @@ impl WaitQueue {
         Ok(copy)
     }
 
-    /// A copy of the request at a place.
+    /// A copy of the request at an index.
     fn copy_at(&self, alloc: Global, at: usize) -> Result<Box<Piece>, AllocError>
         requires { at < length self.now.pieces }
         ensures { IfOk result (λ piece. Some piece.value ≡ slice_get self.now.pieces at) }
@@ -104,7 +104,7 @@ impl WaitQueue {
         self.ring.front().map(|piece| &**piece)
     }
 
-    /// The request at a place, counted from 0 at the front.
+    /// The request at an index, counted from 0 at the front.
     pub fn get(&self, at: usize) -> Option<&Piece>
         ensures { option_copied result ≡ slice_get self.now.pieces at }
     {

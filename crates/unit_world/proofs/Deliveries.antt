@@ -23,6 +23,10 @@ use Rattle.unit_book.specs.Legal.{Legal}
 use Rattle.unit_book.specs.Lists.{Each}
 use Rattle.unit_book.specs.Posts.{posted}
 use Rattle.unit_book.specs.Trace.{is_opening}
+use Rattle.unit_book.specs.declared.control.Control.TheVariants.{Close}
+use Rattle.unit_book.specs.declared.control.Controlling.TheVariants.{Closed}
+use Rattle.unit_book.specs.declared.step.UnitAnswer.TheVariants.{Controlled}
+use Rattle.unit_book.specs.declared.step.UnitStep.TheVariants.{Control}
 use Rattle.unit_world.specs.Parts.{UnitPart, opening_part}
 use Rattle.unit_world.specs.PostLists.{list_of, with_value, without_value}
 use Rattle.unit_world.specs.Sites.{SiteState, MayBegin, IsFirstOut, IsSite, KeepsOthers, StepsUnit, from_unit, is_collected, world_at}
@@ -32,7 +36,7 @@ use Rattle.unit_world.proofs.Sites.{eqb-other, fewer, first-own, from-row, less-
 use Rattle.unit_world.proofs.Sites.{site-keeps}
 use Rattle.unit_world.proofs.States.{all-same, no-rest, opened-out, state-opening, state-step}
 use Rattle.unit_world.proofs.Steps.{collects, delivers, has-list}
-use Rattle.unit_world.proofs.Steps.{closes as closing, opens as opening}
+use Rattle.unit_world.proofs.Steps.{calls, opens as opening}
 
 Each-push : {X : Type 0} (P : X → Type 0) (xs : List X) (x : X) → Each P xs → P x → Each P (xs ++ x ∷ [])
 Each-push P [] x h p = (p, tt)
@@ -232,7 +236,8 @@ module _ {D : Type 0} (meaning : Meaning D) where
   closed-begins book after dcb answer closes begins unit post_room intake back none =
       let v : WorldState D = record { unit = unit; part = opening_part book (length back) intake; post_room = post_room; back = back } in
       state-step meaning v (record v { part = opening_part after (length back) intake }) (begins unit post_room intake back none)
-      (sym (length-replicate (length back) 0)) (closing meaning v (opening_part after (length back) intake) dcb answer refl closes)
+      (sym (length-replicate (length back) 0)) (calls meaning v (opening_part after (length back) intake) (Control (Close dcb))
+      (Controlled (Closed answer)) refl closes)
 
   -- A SITE WITH NO UNITS YET
   pub empty-site : (tasks room : ℕ) → IsSite meaning (record { units = []; post_room = room; rows = replicate tasks [] })

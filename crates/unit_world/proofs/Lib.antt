@@ -8,5 +8,4 @@ pub mod Sites
 pub mod Sides
 pub mod Deliveries
 pub mod Sends
-pub mod PurgedUnits
 pub mod Calls

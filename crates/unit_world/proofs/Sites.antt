@@ -325,21 +325,12 @@ module _ {D : Type 0} (meaning : Meaning D) (k : UnitPlace meaning) (book : Book
         IfOk r (λ a. OnBook k.old k.unit (Does a) book_after)
     book-ok Does done = if-ok r (λ a. book-does (Does a)) done
 
-    pub book-done : (Does : Book D → Book D → Type 0) → OnOk r (Does k.side.book book) → OnOk r (OnBook k.old k.unit Does book_after)
-    book-done Does done = on_ok_weaker r (book-does Does) done
-
     -- it may do this to the book and be refused
     pub book-refused : (Does : Book D → Book D → Type 0) → OnErr r (Does k.side.book book) → OnErr r (OnBook k.old k.unit Does book_after)
     book-refused Does done = on_err_weaker r (book-does Does) done
 
-    pub book-fact : (P : Book D → Type 0) → OnOk r (P k.side.book) → OnOk r (OnPart k.old k.unit (λ p. P p.book))
-    book-fact P h = on_ok_weaker r (on-old meaning k (λ p. P p.book)) h
-
     pub book-given : (P : E → Book D → Type 0) → IfErr r (λ e. P e k.side.book) → IfErr r (λ e. OnPart k.old k.unit (λ p. P e p.book))
     book-given P h = if-err r (λ e. on-old meaning k (λ p. P e p.book)) h
-
-    pub book-full : (Lacks : Book D → Type 0) → OnErr r (Lacks k.side.book) → OnErr r (OnPart k.old k.unit (λ p. Lacks p.book))
-    book-full Lacks full = on_err_weaker r (on-old meaning k (λ p. Lacks p.book)) full
 
     pub book-now : (P : Book D → Type 0) → OnOk r (P book) → OnOk r (OnPart book_after k.unit (λ p. P p.book))
     book-now P h = on_ok_weaker r (on-new meaning k (side_with k.side book) (λ p. P p.book)) h

@@ -43,15 +43,6 @@ pub on-done : {A E Then : Type 0} (r : Result A E) {Done : A → Type 0} → IfO
 on-done (Ok a) done f = f a done
 on-done (Err e) done f = tt
 
--- two facts of a call that was done
-pub if-done : {A E : Type 0} (Done : Type 0) (r : Result A E) → OnOk r Done → IfOk r (λ a. Done)
-if-done Done (Ok a) done = done
-if-done Done (Err e) done = tt
-
-pub both : {A E : Type 0} (Done : A → Type 0) (Also : Type 0) (r : Result A E) → IfOk r Done → OnOk r Also → IfOk r (λ a. Done a × Also)
-both Done Also (Ok a) done also = (done, also)
-both Done Also (Err e) done also = tt
-
 -- what follows of the first item, and of that there is none
 pub on-some-value : {X : Type 0} {T : X → Type 0} (r : Option X) (xs : List X) → r ≡ slice_get xs 0 →
     ((x : X) → slice_get xs 0 ≡ Some x → T x) → IfSome r T

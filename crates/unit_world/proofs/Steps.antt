@@ -11,28 +11,20 @@ use Rattle.io_images.specs.declared.extent.Extent.{Extent}
 use Rattle.request_piece.specs.PostedState.{PostedState}
 use Rattle.request_piece.specs.declared.piece.Name.{Name}
 use Rattle.request_piece.specs.declared.piece.Piece.{Piece}
-use Rattle.request_piece.specs.declared.scope.Scope.{Scope}
-use Rattle.unit_book.specs.declared.answer.Closing.{Closing}
-use Rattle.unit_book.specs.declared.answer.Interruption.{Interruption}
-use Rattle.unit_book.specs.declared.answer.Purging.{Purging}
-use Rattle.unit_book.specs.declared.answer.Running.{Running}
-use Rattle.unit_book.specs.declared.answer.Starting.{Starting}
 use Rattle.unit_book.specs.declared.dcb.ProcessingMethod.{ProcessingMethod}
-use Rattle.unit_book.specs.declared.entry.Mode.{Mode}
-use Rattle.unit_book.specs.declared.entry.Entry.TheVariants.{Reset as ResetOf}
-use Rattle.unit_book.specs.Answers.{Adds, InterruptsBook, OpensBook, RunsBook, StartsBook}
+use Rattle.unit_book.specs.declared.step.UnitAnswer.{UnitAnswer}
+use Rattle.unit_book.specs.declared.step.UnitAnswer.TheVariants as unit_answer
+use Rattle.unit_book.specs.declared.step.UnitStep.{UnitStep}
+use Rattle.unit_book.specs.declared.step.UnitStep.TheVariants as unit_step
+use Rattle.unit_book.specs.Answers.{OpensBook}
 use Rattle.unit_book.specs.Book.{Book}
-use Rattle.unit_book.specs.Controls.{ClosesBook, PurgesBook}
-use Rattle.unit_book.specs.Dcbs.{is_open}
-use Rattle.unit_book.specs.Legal.{CanPurge}
+use Rattle.unit_book.specs.Steps.{StepsBook}
 use Rattle.unit_book.specs.Settle.{Settles, Stays, Then, Steps, ByStart, ByRun, ByInterrupt}
-use Rattle.unit_book.specs.World.{World, Step, Accept, Take, Open, Start, Run, Interrupt, Purge, Close, Reset, Deliver, Collect}
-use Rattle.unit_book.specs.World.{Stay, Go, one_more_of_task, without_first}
+use Rattle.unit_book.specs.World.{World, Step, Accept, Take, Open, Call, Deliver, Collect, Stay, Go, one_more_of_task, without_first}
 use Rattle.unit_world.specs.PostLists.{list_of}
 use Rattle.unit_world.specs.Parts.{UnitPart, PartAccepts, PartTakesOne, issued_by}
 use Rattle.unit_world.specs.States.{WorldState, Shows, StepFrom, StepsFrom, StepName, MakesStep, MakesSteps, step_name, with_spare}
-use Rattle.unit_world.specs.States.{AcceptStep, TakeStep, OpenStep, StartStep, RunStep, InterruptStep, PurgeStep, CloseStep, ResetStep}
-use Rattle.unit_world.specs.States.{DeliverStep, CollectStep}
+use Rattle.unit_world.specs.States.{AcceptStep, TakeStep, OpenStep, CallStep, DeliverStep, CollectStep}
 use Rattle.unit_world.proofs.Moves.{CollectsValue, DeliversValue, with_book}
 use Rattle.unit_world.proofs.Spares as spare
 
@@ -143,36 +135,10 @@ module _ {D : Type 0} (meaning : Meaning D) where
     opens dcb method extents same h = in-book (OpenStep dcb method extents) same (λ s sent back got.
         (Open dcb method extents (spare.opens meaning s v.part.book q.book dcb method extents h) refl, refl))
 
-    pub starts : (answer : Starting) → q ≡ record v.part { book = q.book } → StartsBook meaning v.part.book answer q.book →
-        MakesStep meaning (StartStep answer) v (record v { part = q })
-    starts answer same h = in-book (StartStep answer) same (λ s sent back got.
-        (Start answer (spare.starts meaning s v.part.book q.book answer h) refl, refl))
-
-    pub runs : (max : ℕ) (answer : Running) → 1 ≤ max → q ≡ record v.part { book = q.book } →
-        RunsBook meaning v.part.book max answer q.book → MakesStep meaning (RunStep max answer) v (record v { part = q })
-    runs max answer some same h = in-book (RunStep max answer) same (λ s sent back got.
-        (Run max answer some (spare.runs meaning s v.part.book q.book max answer h) refl, refl))
-
-    pub interrupts : (answer : Interruption) → q ≡ record v.part { book = q.book } →
-        InterruptsBook meaning v.part.book answer q.book → MakesStep meaning (InterruptStep answer) v (record v { part = q })
-    interrupts answer same h = in-book (InterruptStep answer) same (λ s sent back got.
-        (Interrupt answer (spare.interrupts meaning s v.part.book q.book answer h) refl, refl))
-
-    pub purges : (scope : Scope) (mode : Mode) (answer : Purging) → q ≡ record v.part { book = q.book } →
-        CanPurge meaning v.part.book.mounted scope v.part.book.trace → PurgesBook meaning v.part.book scope mode answer q.book →
-        MakesStep meaning (PurgeStep scope mode answer) v (record v { part = q })
-    purges scope mode answer same can h = in-book (PurgeStep scope mode answer) same (λ s sent back got.
-        (Purge scope mode answer can (spare.purges meaning s v.part.book q.book scope mode answer h) refl, refl))
-
-    pub closes : (dcb : ℕ) (answer : Closing) → q ≡ record v.part { book = q.book } →
-        ClosesBook meaning v.part.book dcb answer q.book → MakesStep meaning (CloseStep dcb answer) v (record v { part = q })
-    closes dcb answer same h = in-book (CloseStep dcb answer) same (λ s sent back got.
-        (Close dcb answer (spare.closes meaning s v.part.book q.book dcb answer h) refl, refl))
-
-    pub resets : (dcb : ℕ) → q ≡ record v.part { book = q.book } → is_open dcb v.part.book.trace ≡ true →
-        Adds v.part.book (ResetOf dcb) q.book → MakesStep meaning (ResetStep dcb) v (record v { part = q })
-    resets dcb same open_is h = in-book (ResetStep dcb) same (λ s sent back got.
-        (Reset dcb open_is (spare.adds meaning s v.part.book q.book (ResetOf dcb) h) refl, refl))
+    pub calls : (step : UnitStep) (answer : UnitAnswer) → q ≡ record v.part { book = q.book } →
+        StepsBook meaning v.part.book step answer q.book → MakesStep meaning (CallStep step answer) v (record v { part = q })
+    calls step answer same h = in-book (CallStep step answer) same (λ s sent back got.
+        (Call step answer (spare.steps meaning s v.part.book q.book step answer h) refl, refl))
 
     pub accepts : (r : Piece) → r.unit ≡ v.unit → PartAccepts v.part r q → MakesStep meaning (AcceptStep r) v (record v { part = q })
     accepts r of_unit h = from-lists v (record v { part = q }) (AcceptStep r) (λ s sent back got b l.
@@ -264,9 +230,9 @@ module _ {D : Type 0} (meaning : Meaning D) where
     part = record v.part { book = book }
 
     after : Steps meaning mid book → StepsFrom meaning w (with_book v book)
-    after (ByStart answer h) = then-one (starts (with_book v mid) part answer refl h)
-    after (ByRun max answer some h) = then-one (runs (with_book v mid) part max answer some refl h)
-    after (ByInterrupt answer h) = then-one (interrupts (with_book v mid) part answer refl h)
+    after (ByStart answer h) = then-one (calls (with_book v mid) part unit_step.Start (unit_answer.Started answer) refl h)
+    after (ByRun max answer some h) = then-one (calls (with_book v mid) part (unit_step.Run max) (unit_answer.Ran answer) refl (some, h))
+    after (ByInterrupt answer h) = then-one (calls (with_book v mid) part unit_step.Interrupt (unit_answer.Interrupted answer) refl h)
 
   pub settles : (v : WorldState D) (book : Book D) → Settles meaning v.part.book book → MakesSteps meaning v (with_book v book)
   settles v _ Stays w h = record { after = w; steps = Stay; shows = h }

@@ -5,5 +5,4 @@ pub mod Parts
 pub mod Sending
 pub mod States
 pub mod Sites
-pub mod Purges
 pub mod Calls

@@ -5,17 +5,11 @@ use Rattle.request_piece.specs.PostedState.{PostedState}
 use Rattle.io_images.specs.declared.extent.Extent.{Extent}
 use Rattle.request_piece.specs.declared.piece.Name.{Name}
 use Rattle.request_piece.specs.declared.piece.Piece.{Piece}
-use Rattle.request_piece.specs.declared.scope.Scope.{Scope}
-use Rattle.unit_book.specs.declared.answer.Closing.{Closing}
-use Rattle.unit_book.specs.declared.answer.Interruption.{Interruption}
-use Rattle.unit_book.specs.declared.answer.Purging.{Purging}
-use Rattle.unit_book.specs.declared.answer.Running.{Running}
-use Rattle.unit_book.specs.declared.answer.Starting.{Starting}
 use Rattle.unit_book.specs.declared.dcb.ProcessingMethod.{ProcessingMethod}
-use Rattle.unit_book.specs.declared.entry.Mode.{Mode}
+use Rattle.unit_book.specs.declared.step.UnitAnswer.{UnitAnswer}
+use Rattle.unit_book.specs.declared.step.UnitStep.{UnitStep}
 use Rattle.unit_book.specs.Book.{Book}
-use Rattle.unit_book.specs.World.{World, IsOpening, Reaches, Step, Accept, Take, Open, Start, Run, Interrupt, Purge, Close, Reset, Deliver}
-use Rattle.unit_book.specs.World.{Collect}
+use Rattle.unit_book.specs.World.{World, IsOpening, Reaches, Step, Accept, Take, Open, Call, Deliver, Collect}
 use Rattle.unit_book.specs.WorldLaws.{KeepsRequests}
 use Rattle.unit_world.specs.Parts.{UnitPart, issued_by}
 use Rattle.unit_world.specs.PostLists.{list_of}
@@ -49,12 +43,7 @@ pub data StepName : Type 0 where
   AcceptStep : Piece → StepName
   TakeStep : Name → StepName
   OpenStep : ℕ → ProcessingMethod → List Extent → StepName
-  StartStep : Starting → StepName
-  RunStep : ℕ → Running → StepName
-  InterruptStep : Interruption → StepName
-  PurgeStep : Scope → Mode → Purging → StepName
-  CloseStep : ℕ → Closing → StepName
-  ResetStep : ℕ → StepName
+  CallStep : UnitStep → UnitAnswer → StepName
   DeliverStep : Name → StepName
   CollectStep : ℕ → Name → StepName
 
@@ -63,12 +52,7 @@ module _ {D : Type 0} (meaning : Meaning D) where
   step_name (Accept r h) = AcceptStep r
   step_name (Take h) = TakeStep h.request.name
   step_name (Open dcb method extents h same) = OpenStep dcb method extents
-  step_name (Start answer h same) = StartStep answer
-  step_name (Run max answer some h same) = RunStep max answer
-  step_name (Interrupt answer h same) = InterruptStep answer
-  step_name (Purge scope mode answer can h same) = PurgeStep scope mode answer
-  step_name (Close dcb answer h same) = CloseStep dcb answer
-  step_name (Reset dcb is h same) = ResetStep dcb
+  step_name (Call step answer h same) = CallStep step answer
   step_name (Deliver h) = DeliverStep h.value.name
   step_name (Collect task h) = CollectStep task h.value.name
 

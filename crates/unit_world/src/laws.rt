@@ -17,8 +17,7 @@ pub fn reached_states_keep_requests<D: Device>()
 {}
 
 /// A call of a site is the step of its name in the world of one unit, with the same arguments and answer. It changes no
-/// other unit's world. `settle` is a list of steps of one unit, and a purge of a task is one step of each unit at which
-/// memory does not run out.
+/// other unit's world. `settle` is a list of steps of one unit.
 pub fn calls_make_steps<D: Device>()
     ensures { CallsMakeSteps D.meaning }
 {}

@@ -2,7 +2,7 @@
 //! each task it has a row of the posts that are on the way back to the task. Rows are bounded lists.
 //!
 //! A call makes one step of `unit_book`'s `World` of one unit, or leaves the worlds of all units as they were. `settle`
-//! and `purge_task` make several (`laws::calls_make_steps`). On the way back to a task from a unit are the unit's posts
+//! makes several (`laws::calls_make_steps`). On the way back to a task from a unit are the unit's posts
 //! in the task's row. So the laws of worlds hold of each unit after every list of calls (`PlainSite::holds`).
 //!
 //! Tests: tests/mutants/unit_world.
@@ -11,7 +11,6 @@
 mod active;
 pub mod laws;
 mod post_lists;
-mod purges;
 mod site;
 mod unit_side;
 

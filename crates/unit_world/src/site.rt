@@ -3,7 +3,7 @@
 mod book_calls;
 mod readers;
 
-ghost use Rattle.std.specs.Prelude.{◌≡◌, ◌<◌, ◌≤◌, ◌∷◌, ◌++◌, [], length, map, replicate, slice_get, true, Some, IfErr, IfOk, IfSome, IfNone, OnErr, OnOk};
+ghost use Rattle.std.specs.Prelude.{◌≡◌, ◌<◌, ◌≤◌, ◌∷◌, ◌++◌, [], length, replicate, slice_get, true, Some, IfErr, IfOk, IfSome, IfNone, OnErr, OnOk};
 ghost use Rattle.std.specs.List.{list_all};
 ghost use Rattle.unit_book.specs.Book.{occupancy};
 ghost use Rattle.unit_book.specs.Trace.{is_opening};
@@ -85,18 +85,6 @@ impl<D: Device> PlainSite<D> {
     {
         let side = &mut self.units[usize::from(unit)];
         side.renew(book);
-    }
-
-    /// Its books, by the numbers of the units.
-    pub fn into_books(self) -> Result<Vec<UnitBook<D>>, AllocError>
-        ensures { IfOk result (λ books. books.items ≡ map (λ p. p.book) self.units) }
-    {
-        let PlainSite { units, .. } = self;
-        let mut books = Vec::with_capacity(*units.allocator(), units.len())?;
-        for side in units {
-            books.push(side.into_book())?;
-        }
-        Ok(books)
     }
 
     /// What holds of every site: a list of steps led to the world of each unit, so that unit keeps its requests.

@@ -72,14 +72,6 @@ impl<D: Device> UnitSide<D> {
         self.issued.fill(0);
     }
 
-    /// Its book.
-    pub fn into_book(self) -> UnitBook<D>
-        ensures { result ≡ (unit_part self).book }
-    {
-        let UnitSide { book, .. } = self;
-        book
-    }
-
     /// Accepts the next request of a task for this unit. Never allocates.
     ///
     /// Error: the unit has no room for another request in flight. The request is handed back.

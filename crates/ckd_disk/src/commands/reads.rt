@@ -13,38 +13,43 @@ use device_port::{Acted, NO_RECORD_FOUND, SENSE_BYTES};
 
 /// What a read answers, and the bytes that it gives.
 #[derive(Drop)]
-pub struct Answer<'a> {
+pub struct ReadResult<'a> {
     pub acted: Acted,
     pub bytes: &'a [u8],
 }
 
 /// SENSE: two bytes of zeros, since the sense comes with the status.
-pub fn sense(access: &mut Access) -> Answer<'static>
+pub fn sense(access: &mut Access) -> ReadResult<'static>
     ensures answer { answer_of result.acted access.new result.bytes.now ≡ sense (access_of access.old) }
     ensures access { access.new ≡ record access.old { passes = 0; armed = Armed.No } }
 {
     let orientation = access.orientation;
     access.leave(orientation, Armed::No);
-    Answer {
+    ReadResult {
         acted: Acted::sense(),
         bytes: &SENSE_BYTES,
     }
 }
 
 /// A read that finds no record.
-fn not_found<'a>(access: &mut Access) -> Answer<'a>
+fn not_found<'a>(access: &mut Access) -> ReadResult<'a>
     ensures answer { answer_of result.acted access.new result.bytes.now
         ≡ checked NO_RECORD_FOUND (access_of access.old) }
     ensures access { access.new ≡ record access.old { passes = 0; armed = Armed.No } }
 {
-    Answer {
+    ReadResult {
         acted: check(access, NO_RECORD_FOUND),
         bytes: &[],
     }
 }
 
 /// The end of a read of bytes up to the end of a record.
-fn end_of_read<'a>(track: &Track, access: &mut Access, spot: Spot, bytes: &'a [u8]) -> Answer<'a>
+fn end_of_read<'a>(
+    track: &Track,
+    access: &mut Access,
+    spot: Spot,
+    bytes: &'a [u8],
+) -> ReadResult<'a>
     requires spot { IsSpot track.now.records spot }
     requires short { length bytes.now < 2 ^ 17 }
     ensures answer { answer_of result.acted access.new result.bytes.now
@@ -59,11 +64,11 @@ fn end_of_read<'a>(track: &Track, access: &mut Access, spot: Spot, bytes: &'a [u
     } else {
         Acted::normal_end(want)
     };
-    Answer { acted, bytes }
+    ReadResult { acted, bytes }
 }
 
 /// READ COUNT.
-pub fn read_count<'a>(track: &'a Track, access: &mut Access) -> Answer<'a>
+pub fn read_count<'a>(track: &'a Track, access: &mut Access) -> ReadResult<'a>
     requires { IsPlaced access.old track.now }
     ensures answer { answer_of result.acted access.new result.bytes.now
         ≡ read_count track.now (access_of access.old) }
@@ -74,14 +79,14 @@ pub fn read_count<'a>(track: &'a Track, access: &mut Access) -> Answer<'a>
     };
     access.leave(Orientation::Count(reached.spot), Armed::No);
     let bytes = track.count_area(reached.spot);
-    Answer {
+    ReadResult {
         acted: Acted::normal_end(bytes.len() as u32),
         bytes,
     }
 }
 
 /// READ DATA.
-pub fn read_data<'a>(track: &'a Track, access: &mut Access) -> Answer<'a>
+pub fn read_data<'a>(track: &'a Track, access: &mut Access) -> ReadResult<'a>
     requires { IsPlaced access.old track.now }
     ensures answer { answer_of result.acted access.new result.bytes.now
         ≡ read_data track.now (access_of access.old) }
@@ -94,7 +99,7 @@ pub fn read_data<'a>(track: &'a Track, access: &mut Access) -> Answer<'a>
 }
 
 /// READ KEY AND DATA.
-pub fn read_key_and_data<'a>(track: &'a Track, access: &mut Access) -> Answer<'a>
+pub fn read_key_and_data<'a>(track: &'a Track, access: &mut Access) -> ReadResult<'a>
     requires { IsPlaced access.old track.now }
     ensures answer { answer_of result.acted access.new result.bytes.now
         ≡ read_key_and_data track.now (access_of access.old) }
@@ -107,7 +112,7 @@ pub fn read_key_and_data<'a>(track: &'a Track, access: &mut Access) -> Answer<'a
 }
 
 /// READ COUNT, KEY AND DATA.
-pub fn read_count_key_and_data<'a>(track: &'a Track, access: &mut Access) -> Answer<'a>
+pub fn read_count_key_and_data<'a>(track: &'a Track, access: &mut Access) -> ReadResult<'a>
     requires { IsPlaced access.old track.now }
     ensures answer { answer_of result.acted access.new result.bytes.now
         ≡ read_count_key_and_data track.now (access_of access.old) }

@@ -97,7 +97,7 @@ impl InitialRecord {
 /// A track that is too small for its records.
 #[derive(Clone, Copy)]
 pub struct Overfull {
-    /// The place, among the records, of the first one that does not fit after those before it.
+    /// The position, among the records, of the first one that does not fit after those before it.
     pub record: usize,
     /// How many bytes the track's records take in all, its R0 among them.
     pub needed: u64,

@@ -8,13 +8,13 @@ ghost use Rattle.ckd_disk.specs.Record.{ckd};
 use crate::track::stored::{content_of, id_of, key_of, size_of_first};
 use std::marker::Model;
 
-/// A record as it lies on a track.
+/// A record on a track.
 #[derive(Drop)]
-pub struct Stored<'a> {
+pub struct StoredRecord<'a> {
     bytes: &'a [u8],
 }
 
-impl<'a> Model for Stored<'a> {
+impl<'a> Model for StoredRecord<'a> {
     ghost use Rattle.ckd_disk.specs.Record.{Record, record_at, IsRecord};
 
     ghost Value = { Record };
@@ -24,7 +24,7 @@ impl<'a> Model for Stored<'a> {
     ghost invariant = { λ s. IsRecord s.bytes.now };
 }
 
-impl<'a> Stored<'a> {
+impl<'a> StoredRecord<'a> {
     /// The CCHHR of its count area, 5 bytes.
     pub fn id(&self) -> &'a [u8]
         ensures { result.now ≡ self.now.id }
@@ -86,13 +86,13 @@ impl<'a> Records<'a> {
 }
 
 impl<'a> Iterator for Records<'a> {
-    type Item = Stored<'a>;
+    type Item = StoredRecord<'a>;
 
     ghost next_gives = { YieldsFirst (λ r. r) };
 
     ghost remaining = { item_count (λ r. r) };
 
-    fn next(&mut self) -> Option<Stored<'a>> {
+    fn next(&mut self) -> Option<StoredRecord<'a>> {
         if self.left == 0 {
             return None;
         }
@@ -101,6 +101,6 @@ impl<'a> Iterator for Records<'a> {
         self.rest = rest;
         self.used -= size;
         self.left -= 1;
-        Some(Stored { bytes })
+        Some(StoredRecord { bytes })
     }
 }

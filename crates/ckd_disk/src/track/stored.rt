@@ -1,4 +1,4 @@
-//! The parts of a record that lies in an image.
+//! The parts of a record in the image of a track.
 
 ghost use Rattle.std.specs.Prelude.{◌≡◌, ℕ, ◌+◌, ◌*◌, ◌^◌, ◌<◌, ◌≤◌, length, take, drop};
 ghost use Rattle.device_port.specs.Moves.{written};

@@ -1,22 +1,41 @@
 //! The events of a unit: each is a step of its world.
 
-ghost use Rattle.std.specs.Prelude.{◌≡◌, ◌<◌, ◌≤◌, length, IfErr, IfOk, OnErr, OnOk};
+ghost use Rattle.std.specs.Prelude.{◌≡◌, ◌<◌, length, IfErr, IfOk, OnErr, OnOk};
 ghost use Rattle.any_device.specs.Devices.{any_device};
-ghost use Rattle.excp_site.specs.Refusals.{RunRefused, UnitRefused};
+ghost use Rattle.excp_site.specs.Refusals.{HasTaskOf, NumbersRefused, OpenCallLeaves, OpenCallRefused, StepCallRefused, UnitRefused};
 ghost use Rattle.excp_site.specs.Sites.{IssuesRequest, IssueCallRefused};
-ghost use Rattle.unit_book.specs.Answers.{InterruptsBook, RunsBook, StartsBook};
+ghost use Rattle.unit_book.specs.Answers.{OpensBook};
 ghost use Rattle.unit_book.specs.Book.{occupancy};
-ghost use Rattle.unit_book.specs.Refusals.{InterruptLacks, RunLacks, StartLacks};
+ghost use Rattle.unit_book.specs.Steps.{IsStep, StepsBook};
 ghost use Rattle.unit_world.specs.Parts.{PartTakes};
 ghost use Rattle.unit_world.specs.Sites.{DeliversAs, OnBook, OnUnit};
 
 use crate::refusal::Refusal;
 use crate::site::Site;
 use io_area::Area;
-use request_piece::{Name, Request};
-use unit_book::{Delivery, Intake, Interruption, Running, Starting};
+use io_images::Extent;
+use request_piece::{Name, Request, Scope};
+use unit_book::{Control, Delivery, Intake, ProcessingMethod, UnitAnswer, UnitStep};
 
 impl Site {
+    /// Opens the next DCB of a unit (DFSMSdfp Advanced Services, OPEN). Returns its number, counted from 1.
+    ///
+    /// Errors: `NoUnit`, `TooManyDcbs`, `BadExtent`, `NoMemory`. The room for entries may have grown then.
+    pub fn open(
+        &mut self,
+        unit: u16,
+        method: ProcessingMethod,
+        extents: &[Extent],
+    ) -> Result<u16, Refusal>
+        ensures ok { IfOk result (λ dcb. OnBook self.old.plain unit (λ b c. OpensBook any_device b dcb method extents.now c) self.new.plain) }
+        ensures refused { IfErr result (OpenCallRefused self.old.plain unit extents.now) }
+        ensures err { IfErr result (OpenCallLeaves self.old.plain unit self.new.plain) }
+        ensures rest { self.new ≡ record self.old { plain = self.new.plain } }
+    {
+        self.has_unit(unit)?;
+        Ok(self.plain.open(unit, method, extents)?)
+    }
+
     /// Issues a request of a task on a copy of the storage, which lies at `base` and has its IOB at `iob` (DFSMSdfp Advanced
     /// Services, EXCP). It is in flight to the unit then. Returns its name.
     ///
@@ -65,47 +84,42 @@ impl Site {
         Ok(self.plain.take(unit)?)
     }
 
-    /// Starts what comes next at a unit.
+    /// Makes a step of a unit: starts, runs, interrupts, purges, closes or resets ([`unit_book::UnitBook::step`]).
     ///
-    /// Errors: `NoUnit`, `NoMemory`.
-    pub fn start(&mut self, unit: u16) -> Result<Starting, Refusal>
-        ensures ok { IfOk result (λ answer. OnBook self.old.plain unit (λ b c. StartsBook any_device b answer c) self.new.plain) }
-        ensures refused { IfErr result (UnitRefused self.old.plain unit (StartLacks any_device)) }
+    /// Errors, in this order:
+    ///
+    /// - `NoUnit`.
+    /// - `BadNumber` for a run of no command, `NoTask` if there is no such task to purge.
+    /// - `NoDcb`: the DCB to purge or close was never opened, or that to reset is not open.
+    /// - `NoMemory`.
+    pub fn step(&mut self, unit: u16, step: UnitStep) -> Result<UnitAnswer, Refusal>
+        ensures ok { IfOk result (λ answer. OnBook self.old.plain unit (λ b c. StepsBook any_device b step answer c) self.new.plain) }
+        ensures task { OnOk result (HasTaskOf self.old.plain step) }
+        ensures refused { IfErr result (StepCallRefused self.old.plain unit step) }
         ensures rest { self.new ≡ record self.old { plain = self.new.plain } }
         ensures err { OnErr result (self.new ≡ self.old) }
     {
         self.has_unit(unit)?;
-        Ok(self.plain.start(unit)?)
+        self.has_numbers_of(step)?;
+        Ok(self.plain.step(unit, step)?)
     }
 
-    /// Runs the active channel program of a unit for at most `max` commands.
-    ///
-    /// Errors, in this order: `NoUnit`; `BadNumber` if `max` is 0; `NoMemory`.
-    pub fn run(&mut self, unit: u16, max: u32) -> Result<Running, Refusal>
-        ensures ok { IfOk result (λ answer. OnBook self.old.plain unit (λ b c. RunsBook any_device b max answer c) self.new.plain) }
-        ensures some { OnOk result (1 ≤ max) }
-        ensures refused { IfErr result (RunRefused self.old.plain unit max) }
-        ensures rest { self.new ≡ record self.old { plain = self.new.plain } }
-        ensures err { OnErr result (self.new ≡ self.old) }
+    /// Tests that a run has a command, and that there is a task to purge.
+    fn has_numbers_of(&self, step: UnitStep) -> Result<(), Refusal>
+        ensures step { OnOk result (IsStep step) }
+        ensures task { OnOk result (HasTaskOf self.now.plain step) }
+        ensures refused { IfErr result (NumbersRefused self.now.plain step) }
     {
-        self.has_unit(unit)?;
-        if max == 0 {
-            return Err(Refusal::BadNumber);
+        match step {
+            UnitStep::Run(max) if max == 0 => Err(Refusal::BadNumber),
+            UnitStep::Control(Control::Purge(Scope::Task(task), _)) => self.has_task(task),
+            UnitStep::Control(
+                Control::Purge(Scope::Dcb(_), _) | Control::Close(_) | Control::Reset(_),
+            )
+            | UnitStep::Run(_)
+            | UnitStep::Start
+            | UnitStep::Interrupt => Ok(()),
         }
-        Ok(self.plain.run(unit, max)?)
-    }
-
-    /// Takes the pending status of a unit.
-    ///
-    /// Errors: `NoUnit`, `NoMemory`.
-    pub fn interrupt(&mut self, unit: u16) -> Result<Interruption, Refusal>
-        ensures ok { IfOk result (λ answer. OnBook self.old.plain unit (λ b c. InterruptsBook any_device b answer c) self.new.plain) }
-        ensures refused { IfErr result (UnitRefused self.old.plain unit (InterruptLacks any_device)) }
-        ensures rest { self.new ≡ record self.old { plain = self.new.plain } }
-        ensures err { OnErr result (self.new ≡ self.old) }
-    {
-        self.has_unit(unit)?;
-        Ok(self.plain.interrupt(unit)?)
     }
 
     /// Sends the first posted request of a unit back to its task.

@@ -137,7 +137,7 @@ impl Site {
     /// The disk of an image.
     ///
     /// Errors: `BadImage`, `NoMemory`.
-    fn loaded_disk(&mut self, bytes: &[u8]) -> Result<ckd_image::Image, Refusal>
+    fn loaded_disk(&mut self, bytes: &[u8]) -> Result<ckd_image::DiskImage, Refusal>
         ensures ok { IfOk result (λ image. IsCkd bytes.now image) }
         ensures same { OnOk result (self.new ≡ self.old) }
         ensures refused { IfErr result (LoadRefused (BreaksCkd bytes.now)) }
@@ -154,7 +154,7 @@ impl Site {
     /// The tape of an image, with this size.
     ///
     /// Errors: `BadImage`, `NoMemory`.
-    fn loaded_tape(&mut self, bytes: &[u8], size: u64) -> Result<aws_tape::Image, Refusal>
+    fn loaded_tape(&mut self, bytes: &[u8], size: u64) -> Result<aws_tape::TapeImage, Refusal>
         requires { is_recordable size ≡ true }
         ensures ok { IfOk result (λ image. read_image size bytes.now ≡ Ok image) }
         ensures same { OnOk result (self.new ≡ self.old) }

@@ -1,16 +1,18 @@
 //! Serving a unit: all of its events, one after another.
 
 ghost use Rattle.std.specs.Prelude.{◌≡◌, ◌↔◌, false, ◌<◌, ◌≤◌, IfErr, IfNone, IfOk, IfSome, OnErr, OnOk, length};
+ghost use Rattle.any_device.specs.Devices.{any_device};
 ghost use Rattle.unit_book.specs.Settle.{IsIdle};
-ghost use Rattle.unit_world.specs.Sites.{OnPart};
-ghost use Rattle.excp_site.specs.Serving.{EndsServe, HasSettled, IsQuiet, IsServedFor, IsStill, OnDelivery, ServeRefused, Serves, SettleRefused, StopsServing, commands_done, posts_sent};
+ghost use Rattle.unit_book.specs.Steps.{IsStep, StepsBook};
+ghost use Rattle.unit_world.specs.Sites.{OnBook, OnPart};
+ghost use Rattle.excp_site.specs.Serving.{EndsServe, HasSettled, IsQuiet, IsServedFor, IsStill, OnDelivery, ServeRefused, Serves, SettleRefused, StopsServing, commands_done, changed_nothing, posts_sent};
 
 use crate::refusal::Refusal;
 use crate::served::{Served, ServedEnd};
 use crate::site::Site;
 use any_device::AnyDevice;
 use std::alloc::AllocError;
-use unit_book::{Delivery, Intake, Interruption, Running, Starting};
+use unit_book::{Delivery, Intake, Interruption, Running, Starting, UnitAnswer, UnitStep};
 use unit_world::PlainSite;
 
 /// What one turn of a unit did.
@@ -103,41 +105,70 @@ fn take_turn(plain: &mut PlainSite<AnyDevice>, unit: u16, max: u32) -> Result<Tu
     ensures stops { OnErr result (StopsServing plain.old unit max plain.new) }
 {
     let taken = plain.take(unit)?;
-    let started = plain.start(unit)?;
-    let running = plain.run(unit, max)?;
-    let interruption = plain.interrupt(unit)?;
+    let started = step(plain, unit, UnitStep::Start)?;
+    let ran = step(plain, unit, UnitStep::Run(max))?;
+    let interrupted = step(plain, unit, UnitStep::Interrupt)?;
     let delivery = plain.deliver(unit);
     Ok(Turn {
-        has_moved: has_moved(taken, started, running, interruption, delivery),
-        commands: commands_done(running),
+        has_moved: has_moved(taken, started, ran, interrupted, delivery),
+        commands: commands_done(ran),
         delivery,
     })
+}
+
+/// Makes a step that is no control, so it fails only if memory runs out.
+fn step(
+    plain: &mut PlainSite<AnyDevice>,
+    unit: u16,
+    step: UnitStep,
+) -> Result<UnitAnswer, AllocError>
+    requires unit { unit < length plain.old.units }
+    requires step { IsStep step }
+    ensures ok { IfOk result (λ answer. OnBook plain.old unit (λ b c. StepsBook any_device b step answer c) plain.new) }
+    ensures err { OnErr result (plain.new ≡ plain.old) }
+{
+    match plain.step(unit, step) {
+        Ok(answer) => Ok(answer),
+        Err(_) => Err(AllocError),
+    }
 }
 
 /// Whether one of these events changed the unit.
 fn has_moved(
     taken: Intake,
-    started: Starting,
-    running: Running,
-    interruption: Interruption,
+    started: UnitAnswer,
+    ran: UnitAnswer,
+    interrupted: UnitAnswer,
     delivery: Delivery,
 ) -> bool
-    ensures { result ≡ false ↔ IsQuiet taken started running interruption delivery }
+    ensures { result ≡ false ↔ IsQuiet taken started ran interrupted delivery }
 {
     matches!(taken, Intake::Took(_))
-        || matches!(started, Starting::Started(_) | Starting::Violated(_))
-        || !matches!(running, Running::Quiet)
-        || !matches!(interruption, Interruption::Quiet)
+        || !changed_nothing(started)
+        || !changed_nothing(ran)
+        || !changed_nothing(interrupted)
         || matches!(delivery, Delivery::Delivered(_))
 }
 
-/// How many commands a run did.
-fn commands_done(running: Running) -> u32
-    ensures { result ≡ commands_done running }
+/// Whether a step changed nothing.
+fn changed_nothing(answer: UnitAnswer) -> bool
+    ensures { result ≡ changed_nothing answer }
 {
-    match running {
-        Running::Ran { commands, .. } => commands,
-        Running::Quiet => 0,
+    matches!(
+        answer,
+        UnitAnswer::Started(Starting::Busy | Starting::Idle)
+            | UnitAnswer::Ran(Running::Quiet)
+            | UnitAnswer::Interrupted(Interruption::Quiet)
+    )
+}
+
+/// How many commands a step did.
+fn commands_done(answer: UnitAnswer) -> u32
+    ensures { result ≡ commands_done answer }
+{
+    match answer {
+        UnitAnswer::Ran(Running::Ran { commands, .. }) => commands,
+        _ => 0,
     }
 }
 

@@ -8,10 +8,10 @@ ghost use Rattle.excp_site.specs.Refusals.{MakeRefused, NoRoomFor};
 use crate::refusal::Refusal;
 use crate::site::Site;
 use any_device::AnyDevice;
-use ckd_disk::{Records, Stored};
+use ckd_disk::{Records, StoredRecord};
 use device_port::Fault;
 use line_printer::PrintedLine;
-use record_lines::{Part, write_unit};
+use record_lines::{RecordDetail, write_unit};
 use run_record::UnitRecord;
 use tape_unit::{Items, Stored as StoredItem};
 use unit_book::UnitBook;
@@ -31,9 +31,9 @@ impl Site {
         self.has_unit(unit)?;
         let record = record_of(self.plain.book(unit));
         let part = if most_steps > 0 {
-            Part::Steps(most_steps)
+            RecordDetail::Steps(most_steps)
         } else {
-            Part::Events
+            RecordDetail::Events
         };
         let mut text = Vec::new(self.alloc);
         if write_unit(&mut text, self.alloc, usize::from(unit), &record, part).is_err() {
@@ -80,7 +80,7 @@ impl Site {
         cylinder: u16,
         head: u16,
         place: usize,
-    ) -> Result<Stored<'_>, Refusal>
+    ) -> Result<StoredRecord<'_>, Refusal>
         ensures unit { OnOk result (unit < length self.now.plain.units) }
         ensures ok { IfOk result (λ r. OnPart self.now.plain unit (λ p. RecordAt (device_now p.book) cylinder head place (Some r))) }
         ensures refused { IfErr result (RecordRefused self.now.plain unit cylinder head place) }
@@ -133,7 +133,7 @@ impl Site {
 }
 
 /// The record at a place of a track, if it has one.
-fn at(records: Records<'_>, place: usize) -> Option<Stored<'_>>
+fn at(records: Records<'_>, place: usize) -> Option<StoredRecord<'_>>
     ensures { result ≡ slice_get records.entry place }
 {
     let mut rest = records;

@@ -7,11 +7,11 @@ ghost use Rattle.unit_book.specs.Controls.{ClosesBook, DcbRefused, PurgesBook, R
 ghost use Rattle.unit_book.specs.Dcbs.{is_open, is_opened};
 ghost use Rattle.unit_book.specs.Refusals.{CloseLacks, InterruptLacks, PurgeLacks, ResetLacks, RunLacks, SettleLacks, StartLacks};
 ghost use Rattle.unit_book.specs.Settle.{AddsService, Settles};
+ghost use Rattle.unit_book.specs.Steps.{ControlLacks, ControlRefused, ControlsBook};
 ghost use Rattle.unit_book.specs.Trace.{active, waiting};
-ghost use Rattle.excp_system.specs.Controls.{ControlLacks, ControlRefused, ControlsBook, asks, is_asked};
+ghost use Rattle.excp_system.specs.Controls.{asks, is_asked};
 ghost use Rattle.excp_system.specs.Notices.{InBook, Notifies, OwesIf, became_pending, leaves_pending};
 
-use crate::control::{Control, Controlling};
 use crate::item::Notice;
 use crate::pens::Pens;
 use crate::site::Opened;
@@ -22,11 +22,11 @@ use request_piece::Scope;
 use std::alloc::AllocError;
 use std::sync::Wait;
 use unit_book::{
-    Closing, DcbError, Entry, Interruption, Mode, OpenError, ProcessingMethod, Purging, Running,
-    Starting, UnitBook,
+    Closing, Control, Controlling, DcbError, Entry, Interruption, Mode, OpenError,
+    ProcessingMethod, Purging, Running, Starting,
 };
 
-/// Whether the answer of a run tells of a status that is pending now.
+/// Whether the answer of a run says that a status is pending now.
 fn leaves_pending(answer: Running) -> bool
     ensures { result ≡ leaves_pending answer }
 {
@@ -41,30 +41,6 @@ fn is_asked<T>(answer: &Result<T, DcbError>) -> bool
     ensures { result ≡ is_asked answer.now }
 {
     !matches!(answer, Err(DcbError::NoMemory))
-}
-
-/// Does a control at a book.
-fn control_book<D: Device>(
-    book: &mut UnitBook<D>,
-    control: Control,
-) -> Result<Controlling, DcbError>
-    ensures ok { IfOk result (λ answer. ControlsBook D.meaning book.old control answer book.new) }
-    ensures refused { IfErr result (ControlRefused book.old control) }
-    ensures full { IfErr result (λ e. e ≡ DcbError.NoMemory → ControlLacks book.old control) }
-    ensures err { OnErr result (book.new ≡ book.old) }
-{
-    match control {
-        Control::Purge(Scope::Dcb(dcb), mode) => Ok(Controlling::Purged(book.purge(dcb, mode)?)),
-        Control::Purge(Scope::Task(task), mode) => match book.purge_task(task, mode) {
-            Ok(purging) => Ok(Controlling::Purged(purging)),
-            Err(_) => Err(DcbError::NoMemory),
-        },
-        Control::Close(dcb) => Ok(Controlling::Closed(book.close(dcb)?)),
-        Control::Reset(dcb) => {
-            book.reset(dcb)?;
-            Ok(Controlling::Reset)
-        }
-    }
 }
 
 impl<'r, S: Opened<D>, D: Device> UnitState<'r, S, D> {
@@ -226,7 +202,7 @@ impl<'r, S: Opened<D>, D: Device> UnitState<'r, S, D> {
     {
         self.book.holds();
         let was_pending = self.book.pending();
-        let answer = control_book(&mut self.book, control);
+        let answer = self.book.control(control);
         pens.note(self.unit, &mut self.log, is_asked(&answer), control);
         let halted = !was_pending & self.book.pending();
         self.notify(rt, halted);

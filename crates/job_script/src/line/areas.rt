@@ -9,15 +9,15 @@ use super::{AreaLine, SetUpLine, TasksLine};
 use crate::forms::{
     address, extents, has, has_least, index, joined_bytes, method_of, number, number_in,
 };
-use crate::refusal::Refusal;
+use crate::refusal::LineError;
 use crate::set_up::Opening;
-use script_words::Words;
+use script_words::LineWords;
 use std::alloc::Global;
 
 /// `tasks N`
 #[inline(always)]
 #[tactic(auto, unfolding(crate::specs::Lines::tasks_line))]
-pub fn tasks(line: &Words<'_>) -> Result<SetUpLine, Refusal>
+pub fn tasks(line: &LineWords<'_>) -> Result<SetUpLine, LineError>
     ensures { Returns set_up_line_said result (tasks_line (words_in line.now)) }
 {
     has(line, 2)?;
@@ -28,7 +28,7 @@ pub fn tasks(line: &Words<'_>) -> Result<SetUpLine, Refusal>
 /// `open U in EXTENT ...` or `open U out EXTENT ...`
 #[inline(always)]
 #[tactic(auto, unfolding(crate::specs::Lines::open_line))]
-pub fn opening(alloc: Global, at: usize, line: &Words<'_>) -> Result<SetUpLine, Refusal>
+pub fn opening(alloc: Global, at: usize, line: &LineWords<'_>) -> Result<SetUpLine, LineError>
     ensures { Returns set_up_line_said result (open_line at (words_in line.now)) }
 {
     has_least(line, 3)?;
@@ -46,7 +46,7 @@ pub fn opening(alloc: Global, at: usize, line: &Words<'_>) -> Result<SetUpLine, 
 /// `area A ADDR HEX ...`
 #[inline(always)]
 #[tactic(auto, unfolding(crate::specs::Lines::area_line))]
-pub fn area(alloc: Global, line: &Words<'_>) -> Result<SetUpLine, Refusal>
+pub fn area(alloc: Global, line: &LineWords<'_>) -> Result<SetUpLine, LineError>
     ensures { Returns set_up_line_said result (area_line (words_in line.now)) }
 {
     has_least(line, 3)?;

@@ -6,15 +6,15 @@ ghost use Rattle.job_script.specs.Outcomes.{Reads, ReadsAs, words_in};
 ghost use Rattle.job_script.specs.Views.{command_said};
 
 use super::ExcpLine;
-use crate::command::{Action, Command};
+use crate::command::{Action, ScriptCommand};
 use crate::fault::FaultName;
 use crate::forms::{address, dcb_of, has, index, mode_of, number};
-use script_words::Words;
+use script_words::LineWords;
 
 /// `excp T U DCB IOB A SHOW LEN`
 #[inline(always)]
 #[tactic(auto, unfolding(crate::specs::Lines::excp_line))]
-pub fn excp(at: usize, line: &Words<'_>) -> Result<ExcpLine, FaultName>
+pub fn excp(at: usize, line: &LineWords<'_>) -> Result<ExcpLine, FaultName>
     ensures { Reads result (excp_line at (words_in line.now)) }
 {
     has(line, 8)?;
@@ -32,7 +32,7 @@ pub fn excp(at: usize, line: &Words<'_>) -> Result<ExcpLine, FaultName>
 /// `purge T U DCB MODE`
 #[inline(always)]
 #[tactic(auto, unfolding(crate::specs::Lines::purge_line))]
-pub fn purge(at: usize, line: &Words<'_>) -> Result<Command, FaultName>
+pub fn purge(at: usize, line: &LineWords<'_>) -> Result<ScriptCommand, FaultName>
     ensures { ReadsAs command_said result (purge_line at (words_in line.now)) }
 {
     has(line, 5)?;
@@ -45,7 +45,7 @@ pub fn purge(at: usize, line: &Words<'_>) -> Result<Command, FaultName>
 /// `purgetask T X MODE`
 #[inline(always)]
 #[tactic(auto, unfolding(crate::specs::Lines::purgetask_line))]
-pub fn purge_task(at: usize, line: &Words<'_>) -> Result<Command, FaultName>
+pub fn purge_task(at: usize, line: &LineWords<'_>) -> Result<ScriptCommand, FaultName>
     ensures { ReadsAs command_said result (purgetask_line at (words_in line.now)) }
 {
     has(line, 4)?;
@@ -58,7 +58,7 @@ pub fn purge_task(at: usize, line: &Words<'_>) -> Result<Command, FaultName>
 /// `close T U DCB`
 #[inline(always)]
 #[tactic(auto, unfolding(crate::specs::Lines::close_line))]
-pub fn close(at: usize, line: &Words<'_>) -> Result<Command, FaultName>
+pub fn close(at: usize, line: &LineWords<'_>) -> Result<ScriptCommand, FaultName>
     ensures { ReadsAs command_said result (close_line at (words_in line.now)) }
 {
     has(line, 4)?;
@@ -70,7 +70,7 @@ pub fn close(at: usize, line: &Words<'_>) -> Result<Command, FaultName>
 /// `reset T U DCB`
 #[inline(always)]
 #[tactic(auto, unfolding(crate::specs::Lines::reset_line))]
-pub fn reset(at: usize, line: &Words<'_>) -> Result<Command, FaultName>
+pub fn reset(at: usize, line: &LineWords<'_>) -> Result<ScriptCommand, FaultName>
     ensures { ReadsAs command_said result (reset_line at (words_in line.now)) }
 {
     has(line, 4)?;
@@ -82,7 +82,7 @@ pub fn reset(at: usize, line: &Words<'_>) -> Result<Command, FaultName>
 /// `wait T`
 #[inline(always)]
 #[tactic(auto, unfolding(crate::specs::Lines::wait_line))]
-pub fn wait(at: usize, line: &Words<'_>) -> Result<Command, FaultName>
+pub fn wait(at: usize, line: &LineWords<'_>) -> Result<ScriptCommand, FaultName>
     ensures { ReadsAs command_said result (wait_line at (words_in line.now)) }
 {
     has(line, 2)?;
@@ -92,8 +92,8 @@ pub fn wait(at: usize, line: &Words<'_>) -> Result<Command, FaultName>
 
 /// A command of a task.
 #[inline(always)]
-fn command(line: usize, task: u16, action: Action) -> Command
+fn command(line: usize, task: u16, action: Action) -> ScriptCommand
     ensures { result ≡ record { line = line; task = task; action = action } }
 {
-    Command { line, task, action }
+    ScriptCommand { line, task, action }
 }

@@ -1,4 +1,4 @@
-//! Lines on units: what they are, what lies on their media, and the faults that they meet.
+//! Lines on units: what they are, the content of their media, and the faults that they meet.
 
 ghost use Rattle.std.specs.Prelude.{◌≡◌};
 ghost use Rattle.job_script.specs.LineViews.{set_up_line_said};
@@ -7,19 +7,19 @@ ghost use Rattle.job_script.specs.Outcomes.{Returns, words_in};
 
 use super::{SetUpLine, UnitLine};
 use crate::forms::{byte, bytes, halfword, has, index, number, small_number, subclass, two_bytes};
-use crate::refusal::Refusal;
-use crate::set_up::Medium;
+use crate::refusal::LineError;
+use crate::set_up::InitialMedium;
 use ckd_disk::{Geometry, InitialRecord};
 use device_port::Fault;
 use io_images::{SubStatus, UnitStatus};
-use script_words::Words;
+use script_words::LineWords;
 use std::alloc::Global;
 use tape_unit::InitialItem;
 
 /// `disk U ISC CYLS HEADS BYTES`
 #[inline(always)]
 #[tactic(auto, unfolding(crate::specs::Lines::disk_line))]
-pub fn disk(alloc: Global, at: usize, line: &Words<'_>) -> Result<SetUpLine, Refusal>
+pub fn disk(alloc: Global, at: usize, line: &LineWords<'_>) -> Result<SetUpLine, LineError>
     ensures { Returns set_up_line_said result (disk_line at (words_in line.now)) }
 {
     has(line, 6)?;
@@ -30,7 +30,7 @@ pub fn disk(alloc: Global, at: usize, line: &Words<'_>) -> Result<SetUpLine, Ref
         heads: number(line, 4)?,
         track_bytes: number(line, 5)?,
     };
-    let medium = Medium::Disk(geometry, Vec::new(alloc));
+    let medium = InitialMedium::Disk(geometry, Vec::new(alloc));
     Ok(SetUpLine::Unit(UnitLine {
         number: unit_number,
         line: at,
@@ -42,13 +42,13 @@ pub fn disk(alloc: Global, at: usize, line: &Words<'_>) -> Result<SetUpLine, Ref
 /// `tape U ISC BYTES`
 #[inline(always)]
 #[tactic(auto, unfolding(crate::specs::Lines::tape_line))]
-pub fn tape(alloc: Global, at: usize, line: &Words<'_>) -> Result<SetUpLine, Refusal>
+pub fn tape(alloc: Global, at: usize, line: &LineWords<'_>) -> Result<SetUpLine, LineError>
     ensures { Returns set_up_line_said result (tape_line at (words_in line.now)) }
 {
     has(line, 4)?;
     let unit_number = index(line, 1)?;
     let isc = subclass(line, 2)?;
-    let medium = Medium::Tape(number(line, 3)?, Vec::new(alloc));
+    let medium = InitialMedium::Tape(number(line, 3)?, Vec::new(alloc));
     Ok(SetUpLine::Unit(UnitLine {
         number: unit_number,
         line: at,
@@ -60,7 +60,7 @@ pub fn tape(alloc: Global, at: usize, line: &Words<'_>) -> Result<SetUpLine, Ref
 /// `printer U ISC LINES PAGES`
 #[inline(always)]
 #[tactic(auto, unfolding(crate::specs::Lines::printer_line))]
-pub fn printer(at: usize, line: &Words<'_>) -> Result<SetUpLine, Refusal>
+pub fn printer(at: usize, line: &LineWords<'_>) -> Result<SetUpLine, LineError>
     ensures { Returns set_up_line_said result (printer_line at (words_in line.now)) }
 {
     has(line, 5)?;
@@ -68,7 +68,7 @@ pub fn printer(at: usize, line: &Words<'_>) -> Result<SetUpLine, Refusal>
     let isc = subclass(line, 2)?;
     let lines = number(line, 3)?;
     let pages = number(line, 4)?;
-    let medium = Medium::Printer { lines, pages };
+    let medium = InitialMedium::Printer { lines, pages };
     Ok(SetUpLine::Unit(UnitLine {
         number: unit_number,
         line: at,
@@ -80,7 +80,7 @@ pub fn printer(at: usize, line: &Words<'_>) -> Result<SetUpLine, Refusal>
 /// `rec U CC HH R KEY HEX`
 #[inline(always)]
 #[tactic(auto, unfolding(crate::specs::Lines::record_line))]
-pub fn record(alloc: Global, line: &Words<'_>) -> Result<SetUpLine, Refusal>
+pub fn record(alloc: Global, line: &LineWords<'_>) -> Result<SetUpLine, LineError>
     ensures { Returns set_up_line_said result (record_line (words_in line.now)) }
 {
     has(line, 7)?;
@@ -103,7 +103,7 @@ pub fn record(alloc: Global, line: &Words<'_>) -> Result<SetUpLine, Refusal>
 /// `block U HEX`
 #[inline(always)]
 #[tactic(auto, unfolding(crate::specs::Lines::block_line))]
-pub fn block(alloc: Global, line: &Words<'_>) -> Result<SetUpLine, Refusal>
+pub fn block(alloc: Global, line: &LineWords<'_>) -> Result<SetUpLine, LineError>
     ensures { Returns set_up_line_said result (block_line (words_in line.now)) }
 {
     has(line, 3)?;
@@ -115,7 +115,7 @@ pub fn block(alloc: Global, line: &Words<'_>) -> Result<SetUpLine, Refusal>
 /// `mark U`
 #[inline(always)]
 #[tactic(auto, unfolding(crate::specs::Lines::mark_line))]
-pub fn mark(line: &Words<'_>) -> Result<SetUpLine, Refusal>
+pub fn mark(line: &LineWords<'_>) -> Result<SetUpLine, LineError>
     ensures { Returns set_up_line_said result (mark_line (words_in line.now)) }
 {
     has(line, 2)?;
@@ -126,7 +126,7 @@ pub fn mark(line: &Words<'_>) -> Result<SetUpLine, Refusal>
 /// `fault U ORDINAL UU SS XXXX`
 #[inline(always)]
 #[tactic(auto, unfolding(crate::specs::Lines::fault_line))]
-pub fn fault(line: &Words<'_>) -> Result<SetUpLine, Refusal>
+pub fn fault(line: &LineWords<'_>) -> Result<SetUpLine, LineError>
     ensures { Returns set_up_line_said result (fault_line (words_in line.now)) }
 {
     has(line, 6)?;

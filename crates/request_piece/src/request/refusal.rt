@@ -8,7 +8,7 @@ use super::{Request, has_ecb_place, has_program_place, iob_image};
 use io_area::Area;
 use io_images::Iob;
 
-/// What is wrong with the place of a control block or a channel program.
+/// What is wrong with the address of a control block or a channel program.
 #[derive(Clone, Copy)]
 pub enum Misplaced {
     /// Its address is not a multiple of what it must be.
@@ -60,7 +60,7 @@ impl Request {
     }
 }
 
-/// What is wrong with the place of what must lie on a multiple of `alignment`, with `count` bytes in the area, and
+/// What is wrong with the address of what must lie on a multiple of `alignment`, with `count` bytes in the area, and
 /// outside the IOB.
 fn how_misplaced(at: u32, alignment: u32, count: usize, area: &Area) -> Misplaced
     requires { 0 < alignment }

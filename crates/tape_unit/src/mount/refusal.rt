@@ -23,7 +23,7 @@ impl InitialItem {
 /// A tape that is too short for its items.
 #[derive(Clone, Copy)]
 pub struct Overrun {
-    /// The place, among the items, of the first one that does not fit after those before it.
+    /// The index, among the items, of the first one that does not fit after those before it.
     pub item: usize,
     /// How many bytes all items take.
     pub needed: u64,

@@ -4,7 +4,7 @@ use Rattle.ckd_disk.specs.declared.mount.InitialRecord.{InitialRecord}
 use Rattle.ckd_disk.specs.Mount.{Mounts as MountsDisk}
 use Rattle.tape_unit.specs.declared.mount.InitialItem.{InitialItem}
 use Rattle.tape_unit.specs.Mount.{Mounts as MountsTape}
-use Rattle.job_script.specs.declared.set_up.Medium.{Medium}
+use Rattle.job_script.specs.declared.set_up.InitialMedium.{InitialMedium}
 use Rattle.job_script.specs.Views.{medium_said}
 use Rattle.job_mount.specs.Devices.{mounted}
 use Rattle.job_mount.specs.Outcomes.{MountsDevice}
@@ -19,7 +19,8 @@ returns-in-Ok c =
 
 pub returns-in-Err : goal.returns-in-Err
 returns-in-Err c =
-    subst (λ (m : Medium). MountsDevice (mounted (medium_said m) c.args.unit.now.faults.items) (Err c.in-Err.error)) (sym c.in-Disk.is)
+    subst (λ (m : InitialMedium). MountsDevice (mounted (medium_said m) c.args.unit.now.faults.items) (Err c.in-Err.error))
+    (sym c.in-Disk.is)
     (disk_refused c.in-Disk.geometry c.in-Disk.records.items c.args.unit.now.faults.items c.in-Err.error
     (subst (λ (on : List InitialRecord). MountsDisk c.in-Disk.geometry on c.args.unit.now.faults.items (Err c.in-Err.error))
     c.deref.ensures.value
@@ -34,7 +35,7 @@ returns-in-Ok-mount c =
 
 pub returns-in-Err-mount : goal.returns-in-Err-mount
 returns-in-Err-mount c =
-    subst (λ (m : Medium). MountsDevice (mounted (medium_said m) c.args.unit.now.faults.items) (Err c.in-Err-mount.error))
+    subst (λ (m : InitialMedium). MountsDevice (mounted (medium_said m) c.args.unit.now.faults.items) (Err c.in-Err-mount.error))
     (sym c.in-Tape.is)
     (tape_refused c.in-Tape.bytes c.in-Tape.items.items c.args.unit.now.faults.items c.in-Err-mount.error
     (subst (λ (on : List InitialItem). MountsTape c.in-Tape.bytes on c.args.unit.now.faults.items (Err c.in-Err-mount.error))

@@ -1,8 +1,8 @@
 use Rattle.std.proofs.Common.{◌≡◌, ◌<◌, ◌∙◌, length, refl, ap, arith}
 use Rattle.std.proofs.lemmas.Result.{on_ok_weaker}
 use Rattle.request_piece.specs.declared.scope.Scope.TheVariants.{Task}
-use Rattle.excp_system.specs.declared.control.Control.{Control}
-use Rattle.excp_system.specs.declared.control.Control.TheVariants.{Purge}
+use Rattle.unit_book.specs.declared.control.Control.{Control}
+use Rattle.unit_book.specs.declared.control.Control.TheVariants.{Purge}
 use Rattle.excp_system.specs.States.{TaskState}
 use Rattle.job_run.proofs.Asked.{asks_first, first_all, first_and, of_error, some_and, some_none}
 use Rattle.job_run.proofs.unit_calls.purge_task.Goals as goal

@@ -1,6 +1,6 @@
 use Rattle.std.proofs.Common.{◌≡◌, OnOk}
 use Rattle.request_piece.specs.declared.scope.Scope.TheVariants.{Task}
-use Rattle.excp_system.specs.declared.control.Control.TheVariants.{Purge}
+use Rattle.unit_book.specs.declared.control.Control.TheVariants.{Purge}
 use Rattle.job_run.proofs.Asked.{AsksSomeFirst, asks_first}
 use Rattle.job_run.proofs.unit_calls.purge_task.Given as goal
 

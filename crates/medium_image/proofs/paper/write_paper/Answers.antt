@@ -1,7 +1,7 @@
 use Rattle.std.proofs.Common.{◌≡◌, ◌++◌, [], List, ℕ, true, refl, sym, ap, ◌∙◌, append-nil}
 use Rattle.std.proofs.lemmas.List.{nil_from_length}
 use Rattle.std.specs.Slice.Iter.{iter_rest}
-use Rattle.line_printer.specs.declared.paper.Position.{Position}
+use Rattle.line_printer.specs.declared.paper.PaperPosition.{PaperPosition}
 use Rattle.line_printer.specs.Paper.{Line}
 use Rattle.aws_tape.proofs.Written.{wrote-all, wrote-more}
 use Rattle.medium_image.specs.Paper.{line_text, lines_text, motion_text, paper_text}
@@ -18,10 +18,10 @@ loop-line-preserved g c =
     let moved : lines_text l.is_printed l.at (iter_rest l.line-iterator) to ≡ motion_text l.is_printed l.at c.position.result ++ rest =
     ap (λ (ls : List Line). lines_text l.is_printed l.at ls to) c.in-Some.ensures.steps
     ∙ next_text l.is_printed l.at line others to
-    ∙ ap (λ (p : Position). motion_text l.is_printed l.at p ++ rest) (sym c.position.ensures) in
+    ∙ ap (λ (p : PaperPosition). motion_text l.is_printed l.at p ++ rest) (sym c.position.ensures) in
     let printed : rest ≡ line_text c.bytes.result.now ++ lines_text true c.position-at.result others to =
     ap (λ (bs : List ℕ). line_text bs ++ lines_text true line.at others to) (sym c.bytes.ensures.bytes)
-    ∙ ap (λ (p : Position). line_text c.bytes.result.now ++ lines_text true p others to) (sym c.position-at.ensures) in
+    ∙ ap (λ (p : PaperPosition). line_text c.bytes.result.now ++ lines_text true p others to) (sym c.position-at.ensures) in
     wrote-more _ _ _ _ _ rest _
     (wrote-more _ _ _ _ rest _ _ l.invariant moved (c.in_ok-write_motion.ensures {u = tt})) printed (c.in_ok-write_line.ensures {u = tt})
 
@@ -33,7 +33,7 @@ returns g c =
     let last : lines_text l.is_printed l.at (iter_rest l.line-iterator) to ≡ motion_text l.is_printed l.at c.position-2.result ++ [] =
     ap (λ (ls : List Line). lines_text l.is_printed l.at ls to) none
     ∙ last_text l.is_printed l.at to
-    ∙ ap (λ (p : Position). motion_text l.is_printed l.at p) (sym c.position-2.ensures)
+    ∙ ap (λ (p : PaperPosition). motion_text l.is_printed l.at p) (sym c.position-2.ensures)
     ∙ sym (append-nil (motion_text l.is_printed l.at c.position-2.result)) in
     let before = lines_text l.is_printed l.at (iter_rest l.line-iterator) to in
     let all = paper_text c.args.printer.now in

@@ -6,11 +6,11 @@ use Rattle.post_ledger.proofs.Joins.{Rest, rest_init, taker_row, rest_drained, r
 use Rattle.post_ledger.proofs.join.join_rows.Goals as goal
 
 pub loop-taker-init : goal.loop-taker-init
-loop-taker-init g c = rest_init g.I.Item.from g.F.Reach.reached c.args.takers.items c.args.fans.now.items c.requires
+loop-taker-init g c = rest_init g.I.RowItem.from g.F.Reach.reached c.args.takers.items c.args.fans.now.items c.requires
 
 pub join_row-requires-clause-row : goal.join_row-requires-clause-row
 join_row-requires-clause-row g c =
-    let from = g.I.Item.from in
+    let from = g.I.RowItem.from in
     let before = c.pop.new.self.items in
     let rest : Rest from c.args.takers.items (before ++ c.in-Some.taker ∷ []) c.args.fans.now.items c.loop-taker.fans.items =
     subst (λ (l : List (Taking _)). Rest from c.args.takers.items l c.args.fans.now.items c.loop-taker.fans.items) c.in-Some.ensures.items
@@ -21,7 +21,7 @@ join_row-requires-clause-row g c =
 
 pub join_row-requires-clause-drained : goal.join_row-requires-clause-drained
 join_row-requires-clause-drained g c =
-    let from = g.I.Item.from in
+    let from = g.I.RowItem.from in
     let before = c.pop.new.self.items in
     let rest : Rest from c.args.takers.items (before ++ c.in-Some.taker ∷ []) c.args.fans.now.items c.loop-taker.fans.items =
     subst (λ (l : List (Taking _)). Rest from c.args.takers.items l c.args.fans.now.items c.loop-taker.fans.items) c.in-Some.ensures.items
@@ -33,7 +33,7 @@ join_row-requires-clause-drained g c =
 
 pub loop-taker-preserved : goal.loop-taker-preserved
 loop-taker-preserved g c =
-    let from = g.I.Item.from in
+    let from = g.I.RowItem.from in
     let before = c.pop.new.self.items in
     let rest : Rest from c.args.takers.items (before ++ c.in-Some.taker ∷ []) c.args.fans.now.items c.loop-taker.fans.items =
     subst (λ (l : List (Taking _)). Rest from c.args.takers.items l c.args.fans.now.items c.loop-taker.fans.items) c.in-Some.ensures.items

@@ -1,12 +1,12 @@
 use Rattle.std.proofs.Common.{◌≡◌, ◌<◌, ◌+◌, ◌∷◌, Global, List, Vec, drop, length, map, ap, rules, ◌∙◌, sym}
 use Rattle.post_lines.proofs.Putting.{if-failed, part-more, wrote-more}
 use Rattle.post_lines.specs.Slots.{SlotState, slot_of}
-use Rattle.post_lines.specs.declared.slot.Slot.{Slot}
+use Rattle.post_lines.specs.declared.slot.PostSlot.{PostSlot}
 use Rattle.post_lines.specs.Lines.{unit_text, units_text}
 use Rattle.post_lines.proofs.Left.{next_of}
 use Rattle.post_lines.proofs.posts.write_task.Goals as goal
 
-abbrev unit_of : Vec Slot Global → List SlotState
+abbrev unit_of : Vec PostSlot Global → List SlotState
 unit_of v = map slot_of v.items
 
 pub loop-unit-preserved : goal.loop-unit-preserved

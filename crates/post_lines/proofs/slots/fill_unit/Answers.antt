@@ -2,7 +2,7 @@ use Rattle.std.proofs.Common.{◌≡◌, ◌-◌, ◌∙◌, inl, inr, length, m
 use Rattle.std.proofs.lemmas.List.{length-map}
 use Rattle.request_piece.specs.declared.piece.Name.{Name}
 use Rattle.post_lines.specs.Slots.{filled_slot, slot_of}
-use Rattle.post_lines.specs.declared.slot.Slot.{Slot}
+use Rattle.post_lines.specs.declared.slot.PostSlot.{PostSlot}
 use Rattle.post_lines.proofs.Changes.{change_from_1-set, change_from_1-past}
 use Rattle.post_lines.proofs.slots.fill_unit.Goals as goal
 
@@ -15,7 +15,7 @@ returns-then-number-slots c =
     change_from_1-set (filled_slot p) slot_of slots p.name.seq (n - 1) c.index-slots-number.result c.fill.new.self
     (omega (arith, same, c.if-number-gt0.true)) (omega (arith, same))
     (omega (arith, c.if-number-gt0.true, c.if-number-slots.true)) c.index-slots-number.is
-    (c.fill.ensures ∙ ap (λ (s : Slot). filled_slot p (slot_of s)) (sym c.index-slots-number.is))
+    (c.fill.ensures ∙ ap (λ (s : PostSlot). filled_slot p (slot_of s)) (sym c.index-slots-number.is))
 
 pub returns-else-number-gt0 : goal.returns-else-number-gt0
 returns-else-number-gt0 c =

@@ -38,7 +38,7 @@ returns-clause-was_full g c =
     let lt : k < length ends =
     omega (arith, c.requires.row, ap (λ (v : FanState _). length v.sent) is, length-map ends (λ (s : Sending _). s.sent)) in
     on_err_weaker c.send.result
-    (λ full. subst (λ (v : FanState _). WasFull g.I.Item.from g.I.Item.fact (end_of r v.number k (sent_to v k))) is
-    (fan_full r number ends c.self.invariant c.from.result k c.from.ensures lt e c.index_mut-end.ensures.value g.I.Item.from g.I.Item.fact
-    full))
+    (λ full. subst (λ (v : FanState _). WasFull g.I.RowItem.from g.I.RowItem.fact (end_of r v.number k (sent_to v k))) is
+    (fan_full r number ends c.self.invariant c.from.result k c.from.ensures lt e c.index_mut-end.ensures.value
+    g.I.RowItem.from g.I.RowItem.fact full))
     c.send.ensures.was_full

@@ -1,6 +1,6 @@
 use Rattle.unit_book.proofs.WorldBooks.{keeps-close}
 use Rattle.excp_system.proofs.Begins.{began_call, continues_closes}
-use Rattle.excp_system.specs.declared.control.Control.TheVariants as control
+use Rattle.unit_book.specs.declared.control.Control.TheVariants as control
 use Rattle.excp_system.proofs.Logs.{log_control, close_is}
 use Rattle.excp_system.proofs.Units.{unit-call}
 use Rattle.excp_system.proofs.unit.UnitState.close.Goals as goal

@@ -2,7 +2,7 @@ use Rattle.unit_book.proofs.WorldBooks.{keeps-purge}
 use Rattle.unit_book.proofs.Kept.{done_and}
 use Rattle.request_piece.specs.declared.scope.Scope.TheVariants.{Dcb}
 use Rattle.excp_system.proofs.Begins.{began_call, continues_purges}
-use Rattle.excp_system.specs.declared.control.Control.TheVariants as control
+use Rattle.unit_book.specs.declared.control.Control.TheVariants as control
 use Rattle.excp_system.proofs.Logs.{log_control, purge_is}
 use Rattle.excp_system.proofs.Units.{unit-call}
 use Rattle.excp_system.proofs.unit.UnitState.purge.Goals as goal

@@ -1,7 +1,7 @@
 use Rattle.unit_book.proofs.WorldBooks.{keeps-purge}
 use Rattle.request_piece.specs.declared.scope.Scope.TheVariants.{Task}
 use Rattle.excp_system.proofs.Begins.{began_call, continues_purges}
-use Rattle.excp_system.specs.declared.control.Control.TheVariants as control
+use Rattle.unit_book.specs.declared.control.Control.TheVariants as control
 use Rattle.excp_system.proofs.Logs.{log_task_purge, purge_is}
 use Rattle.excp_system.proofs.Units.{unit-call}
 use Rattle.excp_system.proofs.unit.UnitState.purge_task.Goals as goal

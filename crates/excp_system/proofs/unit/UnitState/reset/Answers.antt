@@ -3,7 +3,7 @@ use Rattle.unit_book.proofs.Kept.{done_and}
 use Rattle.unit_book.specs.Answers.{Adds}
 use Rattle.unit_book.specs.declared.entry.Entry.TheVariants.{Reset}
 use Rattle.excp_system.proofs.Begins.{began_call, continues_adds}
-use Rattle.excp_system.specs.declared.control.Control.TheVariants as control
+use Rattle.unit_book.specs.declared.control.Control.TheVariants as control
 use Rattle.excp_system.proofs.Logs.{log_control, reset_is}
 use Rattle.excp_system.proofs.Units.{unit-call}
 use Rattle.excp_system.proofs.unit.UnitState.reset.Goals as goal

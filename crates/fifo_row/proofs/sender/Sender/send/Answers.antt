@@ -8,6 +8,8 @@ pub push_as-requires-clause-rule : goal.push_as-requires-clause-rule
 push_as-requires-clause-rule g c =
     let i = c.self.invariant in
     let is = c.self.view_is in
-    let from_is = subst (λ (s : Sending _). g.I.Item.from c.args.item ≡ s.number) (sym is) c.requires.number in
-    let it = subst (λ (s : Sending _). g.I.Item.fact c.args.item s.number (suc (length s.sent)) s.tag) (sym is) c.requires.fact in
-    (sends_as g.I.Item.from g.I.Item.fact _ _ _ _ _ _ i.1 from_is it (omega (arith, i.2)), is_state g.I.Item.from g.I.Item.fact _ _)
+    let from_is = subst (λ (s : Sending _). g.I.RowItem.from c.args.item ≡ s.number) (sym is) c.requires.number in
+    let it = subst (λ (s : Sending _). g.I.RowItem.fact c.args.item s.number (suc (length s.sent)) s.tag) (sym is) c.requires.fact in (
+      sends_as g.I.RowItem.from g.I.RowItem.fact _ _ _ _ _ _ i.1 from_is it (omega (arith, i.2)),
+      is_state g.I.RowItem.from g.I.RowItem.fact _ _,
+    )

@@ -1,7 +1,7 @@
 use Rattle.std.proofs.Common.{rules, ◌≡◌, ◌<◌, ◌++◌, ◌∷◌, [], List, length, ap, ◌∙◌}
 use Rattle.std.specs.Prelude.{vec_len}
 use Rattle.job_script.specs.Commands.{NamesUnits}
-use Rattle.job_script.specs.declared.command.Command.{Command}
+use Rattle.job_script.specs.declared.command.ScriptCommand.{ScriptCommand}
 use Rattle.job_script.proofs.Grouping.{grouped-more, pushed}
 use Rattle.job_script.proofs.script.Script.add_command.Goals as goal
 
@@ -25,7 +25,7 @@ invariant_of-self-2 c =
     let command = c.args.command in
     let set_up = c.args.self.now.set_up in
     let is : c.push_reserved.new.self.items ≡ commands ++ command ∷ [] =
-    c.push_reserved.ensures.items ∙ ap (λ (l : List Command). l ++ command ∷ []) c.reserve.ensures.items in
+    c.push_reserved.ensures.items ∙ ap (λ (l : List ScriptCommand). l ++ command ∷ []) c.reserve.ensures.items in
     let place : c.len-place.result ≡ length commands = search rules in
     record {
       declared = rw is (pushed (NamesUnits (vec_len set_up.units)) commands command c.args.self.now.declared c.in_ok-names.ensures.units);

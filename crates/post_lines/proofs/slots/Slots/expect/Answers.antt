@@ -1,7 +1,7 @@
 use Rattle.std.proofs.Common.{◌≡◌, ◌++◌, ◌<◌, ◌≤◌, ◌∷◌, [], ℕ, List, Vec, Global, OnErr, Result, Ok, Err, get_or, length, map, sym, ap, ◌∙◌, rules}
 use Rattle.std.proofs.lemmas.List.{length-map, map-append}
 use Rattle.std.proofs.Math.Seq.{map-set_same}
-use Rattle.post_lines.specs.declared.slot.Slot.{Slot}
+use Rattle.post_lines.specs.declared.slot.PostSlot.{PostSlot}
 use Rattle.post_lines.specs.Slots.{SlotState, waiting_slot, change, slot_of}
 use Rattle.post_lines.proofs.Changes.{change-set, change-past}
 use Rattle.post_lines.proofs.slots.Slots.expect.Goals as goal
@@ -10,7 +10,7 @@ on_err : {T E P : Type 0} (r : Result T E) → P → OnErr r P
 on_err (Ok x) fact = tt
 on_err (Err e) fact = fact
 
-abbrev unit_of : Vec Slot Global → List SlotState
+abbrev unit_of : Vec PostSlot Global → List SlotState
 unit_of v = map slot_of v.items
 
 pub returns-in_err-push-clause-err : goal.returns-in_err-push-clause-err

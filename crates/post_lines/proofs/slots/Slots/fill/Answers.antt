@@ -1,12 +1,12 @@
 use Rattle.std.proofs.Common.{◌≡◌, ◌<◌, ◌≤◌, ℕ, List, Vec, Global, length, map, sym, ap, ◌∙◌, rules}
 use Rattle.std.proofs.lemmas.List.{length-map, with_items_is}
 use Rattle.std.specs.Vec.{vec_len, with_items}
-use Rattle.post_lines.specs.declared.slot.Slot.{Slot}
+use Rattle.post_lines.specs.declared.slot.PostSlot.{PostSlot}
 use Rattle.post_lines.specs.Slots.{SlotState, change, filled_unit, slot_of}
 use Rattle.post_lines.proofs.Changes.{change-set, change-past}
 use Rattle.post_lines.proofs.slots.Slots.fill.Goals as goal
 
-abbrev unit_of : Vec Slot Global → List SlotState
+abbrev unit_of : Vec PostSlot Global → List SlotState
 unit_of v = map slot_of v.items
 
 pub returns-then-unit-len : goal.returns-then-unit-len
@@ -21,7 +21,7 @@ returns-then-unit-len c =
     let size : length slots ≡ vec_len v = search (rules, c.as_mut_slice.ensures.len, c.fill_unit.auto.slots) in
     change-set f unit_of units k v (with_items v slots) within c.index_mut.ensures.value
     (ap (map slot_of) (with_items_is v slots size)
-    ∙ c.fill_unit.ensures ∙ ap (λ (l : List Slot). f (map slot_of l)) c.as_mut_slice.ensures.value)
+    ∙ c.fill_unit.ensures ∙ ap (λ (l : List PostSlot). f (map slot_of l)) c.as_mut_slice.ensures.value)
     ∙ ap (λ (i : ℕ). change f i (map unit_of units)) c.from-unit.ensures
 
 pub returns-else-unit-len : goal.returns-else-unit-len

@@ -1,8 +1,0 @@
-use Rattle.std.proofs.Common.{refl}
-use Rattle.unit_history.specs.PastTies.{before}
-use Rattle.unit_history.proofs.PastLaws.{started-is}
-use Rattle.unit_history.proofs.past.Past.started.Goals as goal
-
-pub returns : goal.returns
-returns c =
-    started-is c.args.name (before c.args.self.now) _ c.requires.follows refl c.request-place.ensures c.attempt-starts.ensures refl refl
