@@ -95,7 +95,7 @@ CYLINDERS, CYLINDERS_LONG = "10", "841"
 MEMORY = 2.2, 2.2, 4.2
 
 # How many times the instructions of the same calls in Rattle, a site cycle of bench_steps, a request from C takes at most.
-MOST_TIMES = 1.25
+MOST_TIMES = 1.3
 
 
 def needs(*tools):
