@@ -1,2 +1,3 @@
--- What the device of a unit means, and the laws that it keeps.
+-- What the device of a unit means, the laws that it keeps, and its size.
 pub mod Devices
+pub mod AnySize

@@ -1,10 +1,11 @@
 //! The enum of the three kinds of device: each call is that of the one that the unit has.
 
 ghost use Rattle.std.specs.Prelude.{◌≡◌};
+ghost use Rattle.any_device.specs.AnySize.{any_keeps_size, any_size};
 ghost use Rattle.any_device.specs.Devices.{any_device, any_device_lawful};
 
 use ckd_disk::Disk;
-use device_port::{Acted, Chain, Device, Flow, Kind};
+use device_port::{Acted, Chain, Device, FixedSize, Flow, Kind};
 use io_area::Area;
 use io_images::Seek;
 use line_printer::Printer;
@@ -87,4 +88,19 @@ impl Device for AnyDevice {
     }
 
     ghost lawful = { any_device_lawful };
+}
+
+impl FixedSize for AnyDevice {
+    ghost size = { any_size };
+
+    fn copy_from(&mut self, from: &Self) {
+        match (self, from) {
+            (AnyDevice::Disk(disk), AnyDevice::Disk(from)) => disk.copy_from(from),
+            (AnyDevice::Tape(tape), AnyDevice::Tape(from)) => tape.copy_from(from),
+            (AnyDevice::Printer(printer), AnyDevice::Printer(from)) => printer.copy_from(from),
+            _ => unreachable!(),
+        }
+    }
+
+    ghost keeps_size = { any_keeps_size };
 }

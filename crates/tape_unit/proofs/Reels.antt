@@ -1,7 +1,7 @@
 -- What the buffer of a reel shows, where positions on it lie, and what a write leaves of it.
 use Rattle.std.proofs.Common.{◌≡◌, ℕ, ◌+◌, ◌*◌, ◌-◌, ◌<◌, ◌≤◌, true, List, [], ◌∷◌, ◌++◌, length, take, drop, refl, sym, ap}
 use Rattle.std.proofs.Common.{subst, ◌∙◌, append_assoc, arith}
-use Rattle.std.proofs.lemmas.List.{length-append, length-take-le, drop_at, take-append-le, take-take, take_more}
+use Rattle.std.proofs.lemmas.List.{length-append, length-take-le, drop_at, take_at, take-append-le, take-take, take_more}
 use Rattle.device_port.specs.Moves.{written}
 use Rattle.device_port.specs.Packed.{items_at, image_of, Begins}
 use Rattle.device_port.proofs.Items.{Packs, packs-held, held-packs, length-written, begins_at, cut_at, offset_of-within, offset_of-all}
@@ -53,6 +53,28 @@ blank_kept size bytes len small = kept (record { size = size; items = [] }) byte
       small = omega arith;
     }
     )
+
+-- a buffer that is written over with the used bytes of a reel of its size shows this reel
+pub refilled : (from : ReelState) (bytes after source : List ℕ) (used count : ℕ) → HoldsReel source used count →
+    seen source count ≡ from → length bytes ≡ from.size → after ≡ written bytes 0 (take used source) → Kept from after used count
+refilled from bytes after source used count h e size is =
+    let s = shown from source used count h e in
+    let image = take used source in
+    let fit : 0 + length image ≤ length bytes = omega (arith, length-take-le used source h.holds.within, h.holds.within, s.size, size) in
+    let long : length after ≡ from.size = ap length is ∙ length-written bytes 0 image fit ∙ size in
+    let same : image ≡ image_of on_tape from.items =
+    ap (take used) s.packs.parts ∙ take_at (image_of on_tape from.items) s.packs.unused used (sym s.packs.taken) in
+    kept from after used count (record {
+      packs = record {
+        unused = drop (0 + length image) bytes;
+        parts = is ∙ ap (λ (l : List ℕ). l ++ drop (0 + length image) bytes) same;
+        fits = s.packs.fits;
+        taken = s.packs.taken;
+        counted = s.packs.counted;
+      };
+      size = long;
+      small = omega (arith, long, s.size, s.small);
+    })
 
 -- ---- positions
 

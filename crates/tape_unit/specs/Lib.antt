@@ -5,5 +5,6 @@ pub mod Reel
 pub mod Command
 pub mod Tape
 pub mod TapeLaws
+pub mod TapeSize
 pub mod Mount
 pub mod Recording

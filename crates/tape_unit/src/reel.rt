@@ -81,6 +81,16 @@ impl Reel {
         })
     }
 
+    /// Becomes the same as another reel of its size. Never allocates. Takes time in the bytes of the items of `from`.
+    pub fn copy_from(&mut self, from: &Self)
+        requires { self.old.size ≡ from.now.size }
+        ensures { self.new ≡ from.now }
+    {
+        put_at(&mut self.bytes, 0, &from.bytes[..from.used]);
+        self.used = from.used;
+        self.count = from.count;
+    }
+
     /// How many items there are.
     pub fn len(&self) -> usize
         ensures { result ≡ length self.now.items }

@@ -5,6 +5,7 @@ ghost use Rattle.device_port.specs.Faults.{IsClear};
 ghost use Rattle.tape_unit.specs.Item.{content_of};
 ghost use Rattle.tape_unit.specs.Tape.{tape, read_ended, spaced_ended};
 ghost use Rattle.tape_unit.specs.TapeLaws.{tape_lawful};
+ghost use Rattle.tape_unit.specs.TapeSize.{tape_keeps_size, tape_size};
 
 use crate::command::{Command, ControlCommand};
 use crate::mount::{InitialItem, are_items, fit, is_size, loaded};
@@ -12,8 +13,8 @@ use crate::position::Position;
 use crate::reel::{LONGEST_BLOCK, Reel};
 use crate::stored::{Items, Stored};
 use device_port::{
-    Acted, COMMAND_REJECT, Chain, Device, EQUIPMENT_CHECK, Fault, FaultScript, Flow, Given, Kind,
-    MountError, SENSE_BYTES, is_script,
+    Acted, COMMAND_REJECT, Chain, Device, EQUIPMENT_CHECK, Fault, FaultScript, FixedSize, Flow,
+    Given, Kind, MountError, SENSE_BYTES, is_script,
 };
 use io_area::Area;
 use io_images::Seek;
@@ -347,4 +348,16 @@ impl Device for Tape {
     }
 
     ghost lawful = { tape_lawful };
+}
+
+impl FixedSize for Tape {
+    ghost size = { tape_size };
+
+    fn copy_from(&mut self, from: &Self) {
+        self.reel.copy_from(&from.reel);
+        self.faults.copy_from(&from.faults);
+        self.head = from.head;
+    }
+
+    ghost keeps_size = { tape_keeps_size };
 }
