@@ -1,5 +1,5 @@
 -- The posted values of a legal trace: as many of each name as posts.
-use Rattle.unit_book.proofs.Names.{◌≡◌, ℕ, ◌+◌, Bool, true, false, List, [], ◌∷◌, ◌++◌, length, refl, sym, ap, ◌∙◌, arith, inl, inr, cases_Bool, Meaning}
+use Rattle.unit_book.proofs.Names.{◌≡◌, ℕ, ◌+◌, Bool, true, false, List, [], ◌∷◌, length, refl, sym, ap, ◌∙◌, arith, inl, inr, cases_Bool, Meaning}
 use Rattle.unit_book.proofs.Names.{same, has_arrived, is_posted, area, filter, filter-append, length-append, if◌then◌else◌, or_left}
 use Rattle.io_images.specs.declared.code.Code.{Code}
 use Rattle.io_images.specs.declared.csw.Csw.{Csw}
@@ -10,7 +10,7 @@ use Rattle.unit_book.specs.declared.entry.Entry.TheVariants.{Post}
 use Rattle.unit_book.specs.Legal.{Legal}
 use Rattle.unit_book.specs.Posts.{posted, posted_value}
 use Rattle.unit_book.specs.Trace.{request_named}
-use Rattle.unit_book.proofs.Facts.{Facts, fresh-post}
+use Rattle.unit_book.proofs.Facts.{fresh-post}
 use Rattle.unit_book.proofs.LegalFacts.{facts, request-named}
 use Rattle.unit_book.specs.WorldLaws.{HaveValues, posts_of, values_named}
 use Rattle.unit_book.proofs.Lists.{same-refl}

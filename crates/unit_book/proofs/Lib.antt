@@ -35,3 +35,5 @@ pub mod Counted
 mod WorldRows
 pub mod Settling
 pub mod Kept
+mod DcbRows
+pub mod Renewals

@@ -93,7 +93,7 @@ module _ {D : Type 0} (meaning : Meaning D) (mounted : D) where
   seeks (_ ∷ H) l n h = seeks H l.1 n h
 
   -- what no command and no prefix changes is as it was mounted
-  kept-stand : {X : Type 0} (f : D → X) → ((d : D) (command : ℕ) (bytes : List ℕ) → f (meaning.act d command bytes).device ≡ f d) →
+  pub kept-stand : {X : Type 0} (f : D → X) → ((d : D) (command : ℕ) (bytes : List ℕ) → f (meaning.act d command bytes).device ≡ f d) →
       ((d : D) (seek : Seek) (mask : ℕ) → f (meaning.prefix d seek mask) ≡ f d) → (rest : List Attempt) →
       f (stand meaning mounted rest).device ≡ f mounted
   unfolding stand

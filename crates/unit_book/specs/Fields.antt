@@ -151,6 +151,10 @@ abbrev pub shut : Bool → Option Dcb → Option Dcb
 shut here None = None
 shut here (Some c) = Some (record { method = c.method; extents = c.extents; closed = here || c.closed; in_error = c.in_error })
 
+-- the DCB without its flag
+abbrev pub unflagged_row : Dcb → Dcb
+unflagged_row c = record { method = c.method; extents = c.extents; closed = c.closed; in_error = false }
+
 -- the DCB loses its flag, if it is this one
 abbrev pub unflagged : Bool → Option Dcb → Option Dcb
 unflagged here None = None

@@ -21,3 +21,4 @@ pub mod Steps
 pub mod World
 pub mod WorldLaws
 pub mod Settle
+pub mod Renewal

@@ -1,5 +1,5 @@
 -- ONE STEP OF A BOOK: which of its calls, what that does and answers, and when it is refused (profile).
-use Rattle.std.specs.Prelude.{◌≡◌, ◌≤◌, ℕ, true}
+use Rattle.std.specs.Prelude.{◌≡◌, ◌≤◌, true}
 use Rattle.device_port.specs.Meaning.{Meaning}
 use Rattle.request_piece.specs.declared.scope.Scope.TheVariants.{Dcb, Task}
 use Rattle.unit_book.specs.declared.answer.DcbError.{DcbError}

@@ -1,6 +1,6 @@
 -- THE WORLD OF A UNIT: the tasks that send it requests and collect what was posted, its book, and what is under way
 -- between them (profile).
-use Rattle.std.specs.Prelude.{◌≡◌, ◌≤◌, ◌<◌, ℕ, ◌+◌, ◌==◌, true, if◌then◌else◌, Some, None, List, [], ◌∷◌, ◌++◌, length, drop}
+use Rattle.std.specs.Prelude.{◌≡◌, ◌<◌, ℕ, ◌+◌, ◌==◌, true, if◌then◌else◌, Some, None, List, [], ◌∷◌, ◌++◌, length, drop}
 use Rattle.std.specs.Prelude.{slice_get}
 use Rattle.std.specs.List.{filter, list_all}
 use Rattle.io_images.specs.declared.extent.Extent.{Extent}

@@ -2,6 +2,7 @@
 
 mod controls;
 mod readers;
+mod renewal;
 mod settle;
 mod steps;
 
@@ -114,7 +115,7 @@ impl<D: Device> UnitBook<D> {
         ensures err { OnErr result (self.new ≡ self.old) }
         ensures pending { is_pending D.meaning self.new ≡ is_pending D.meaning self.old }
     {
-        if !self.entries.has_room() {
+        if !self.has_room() {
             return Err((ArriveError::Held, request));
         }
         if self.reserve().is_err() {

@@ -1,10 +1,10 @@
 //! The DCBs of a unit.
 
-ghost use Rattle.std.specs.Prelude.{◌≡◌, ◌+◌, ◌==◌, ◌&&◌, ℕ, [], ◌∷◌, ◌++◌, length, IfOk, OnOk, OnErr, true, false};
+ghost use Rattle.std.specs.Prelude.{◌≡◌, ◌+◌, ◌==◌, ◌&&◌, ℕ, [], ◌∷◌, ◌++◌, length, map, IfOk, OnOk, OnErr, true, false};
 ghost use Rattle.std.specs.Option.{option_copied};
 ghost use Rattle.io_images.specs.Codes.{is_error};
 ghost use Rattle.unit_book.specs.Dcbs.{mask_for};
-ghost use Rattle.unit_book.specs.Fields.{HasRow, dcb_at, mask_at, extents_at, noted, shut, unflagged};
+ghost use Rattle.unit_book.specs.Fields.{HasRow, dcb_at, mask_at, extents_at, noted, shut, unflagged, unflagged_row};
 
 use crate::extents::Extents;
 use io_images::{Code, Extent, FileMask};
@@ -170,6 +170,14 @@ impl DcbTable {
     {
         unflag(&mut self.rows[usize::from(dcb) - 1]);
     }
+
+    /// Clears the error flag of each DCB.
+    pub fn unflag_all(&mut self)
+        ensures dcbs { (d : ℕ) → dcb_at self.new d ≡ unflagged true (dcb_at self.old d) }
+        ensures count { length self.new ≡ length self.old }
+    {
+        unflag_all(&mut self.rows);
+    }
 }
 
 /// Copies the rows of a table of DCBs. Fails only if memory runs out.
@@ -184,6 +192,15 @@ fn copy_rows(rows: &Vec<Dcb>) -> Result<Vec<Dcb>, AllocError>
     Ok(copies)
 }
 
+/// Clears the error flag of each of these DCBs.
+fn unflag_all(rows: &mut Vec<Dcb>)
+    ensures { rows.new.items ≡ map unflagged_row rows.old.items }
+{
+    for place in 0..rows.len() {
+        unflag(&mut rows[place]);
+    }
+}
+
 /// Notes that the DCB is closed.
 fn close(dcb: &mut Dcb)
     ensures { dcb.new ≡ record dcb.old { closed = true } }
@@ -193,7 +210,7 @@ fn close(dcb: &mut Dcb)
 
 /// Clears the error flag.
 fn unflag(dcb: &mut Dcb)
-    ensures { dcb.new ≡ record dcb.old { in_error = false } }
+    ensures { dcb.new ≡ unflagged_row dcb.old }
 {
     dcb.in_error = false;
 }

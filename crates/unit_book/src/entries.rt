@@ -1,10 +1,11 @@
 //! A book whose calls add one entry each.
 
+mod checks;
 mod controls;
 mod copies;
 mod posts;
 mod programs;
-mod readers;
+mod renewal;
 
 ghost use Rattle.std.specs.Prelude.{◌≡◌, ◌≤◌, ◌<◌, ◌+◌, ◌-◌, true, false, None, ◌∷◌, ◌++◌, [], reverse, length, vec_len, vec_capacity, IfOk, IfErr, OnOk, OnErr};
 ghost use Rattle.circular_buffer.specs.Buffer.{buffer};
@@ -35,15 +36,15 @@ use unit_queue::WaitQueue;
 /// The fields of a book. Every one is that of the trace.
 #[derive(Drop)]
 pub(crate) struct Entries<D: Device> {
-    mounted: D,
-    channel: Subchannel<D>,
-    active: Option<Active>,
-    waiting: WaitQueue,
+    pub mounted: D,
+    pub channel: Subchannel<D>,
+    pub active: Option<Active>,
+    pub waiting: WaitQueue,
     /// Room for the requests that a call purges; empty between calls.
     swept: WaitQueue,
-    dcbs: DcbTable,
-    trace: Vec<Entry>,
-    out: HeapCircularBuffer<Posted>,
+    pub dcbs: DcbTable,
+    pub trace: Vec<Entry>,
+    pub out: HeapCircularBuffer<Posted>,
 }
 
 impl<D: Device> Model for Entries<D> {

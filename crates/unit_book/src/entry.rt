@@ -1,6 +1,7 @@
 //! The trace of a unit: its entries.
 
 ghost use Rattle.std.specs.Prelude.{◌≡◌, IfOk};
+ghost use Rattle.unit_book.specs.Renewal.{is_opening_or_close};
 
 use crate::dcb::ProcessingMethod;
 use crate::extents::Extents;
@@ -55,5 +56,12 @@ impl Entry {
             Entry::Reset(dcb) => Entry::Reset(*dcb),
             Entry::Post(name, csw, sense, code) => Entry::Post(*name, *csw, *sense, *code),
         })
+    }
+
+    /// Whether a DCB was opened or closed.
+    pub(crate) fn is_opening_or_close(&self) -> bool
+        ensures { result ≡ is_opening_or_close self.now }
+    {
+        matches!(self, Entry::Opened(..) | Entry::Close(_))
     }
 }

@@ -49,7 +49,7 @@ impl<D: Device> UnitBook<D> {
         ensures full { IfErr result (λ e. e ≡ DcbError.NoMemory → PurgeLacks self.old) }
         ensures pending { OnOk result (is_pending D.meaning self.new ≡ (is_pending D.meaning self.old || halts_program D.meaning self.old (Scope.Dcb dcb) mode)) }
     {
-        if self.entries.dcb_state(dcb) == DcbState::Unknown {
+        if self.dcb_state(dcb) == DcbState::Unknown {
             return Err(DcbError::NoSuchDcb);
         }
         self.purge_scope(Scope::Dcb(dcb), mode)
@@ -120,7 +120,7 @@ impl<D: Device> UnitBook<D> {
         ensures err { OnErr result (self.new ≡ self.old) }
         ensures pending { is_pending D.meaning self.new ≡ is_pending D.meaning self.old }
     {
-        let state = self.entries.dcb_state(dcb);
+        let state = self.dcb_state(dcb);
         if state == DcbState::Unknown {
             return Err(DcbError::NoSuchDcb);
         }
@@ -159,7 +159,7 @@ impl<D: Device> UnitBook<D> {
         ensures err { OnErr result (self.new ≡ self.old) }
         ensures pending { is_pending D.meaning self.new ≡ is_pending D.meaning self.old }
     {
-        if self.entries.dcb_state(dcb) != DcbState::Open {
+        if self.dcb_state(dcb) != DcbState::Open {
             return Err(DcbError::NoSuchDcb);
         }
         if self.entries.reserve(1).is_err() {
