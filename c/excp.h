@@ -333,7 +333,8 @@ typedef struct excp_trace_entry {
     uint8_t channel_status; /* of the CSW */
 } excp_trace_entry;
 
-/* The entry at a place of the trace of a unit, counted from 0, the oldest first. The first is at place 0 again after a checkpoint. */
+/* The entry at a place of the trace of a unit, counted from 0, the oldest first. Of those before a checkpoint, openings and closes of
+ * DCBs stay. */
 excp_status excp_look_entry(excp_site *site, uint16_t unit, uint32_t place, excp_trace_entry *entry);
 
 typedef struct excp_record {
@@ -439,8 +440,8 @@ excp_status excp_channel_halt(excp_site *site, uint32_t channel, uint32_t *code)
 /* ---- Long use -------------------------------------------------------------------------------------------------------- */
 
 /* Forgets what happened at an idle unit, so that its memory does not grow with each request. The device, its medium, its image and
- * the DCBs stay as they are, but for the error flag of a closed one. Numbers of requests go on. While it runs, it takes twice the
- * memory of the medium beside what the unit has. EXCP_NOT_IDLE and EXCP_IN_ERROR say what has to be done first. */
+ * the DCBs stay as they are, but for the error flag of a closed one. Numbers of requests go on. It takes memory for a number for
+ * each task alone. EXCP_NOT_IDLE and EXCP_IN_ERROR say what has to be done first. */
 excp_status excp_checkpoint(excp_site *site, uint16_t unit);
 
 #ifdef __cplusplus

@@ -117,7 +117,7 @@ class NotIdle(ExcpError):
 
 
 class InError(ExcpError):
-    """A DCB is in error, so no checkpoint: reset it first."""
+    """An open DCB is in error, so no checkpoint: reset it first."""
 
 
 class LibraryNotFound(ImportError):

@@ -87,7 +87,7 @@ class Unit:
 
     def checkpoint(self) -> None:
         """Forgets what happened at this idle unit, so that its memory does not grow with each
-        request."""
+        request. Raises NotIdle, or InError if an open DCB is in error."""
         self._calls.call("checkpoint", self.number)
 
     # --- what there is
@@ -150,7 +150,7 @@ class Unit:
 
     def entries(self, first: int = 0) -> Iterator[Entry]:
         """The entries of the trace from one on, counted from 0: what happened at the unit since it
-        was mounted, or since its last checkpoint."""
+        was mounted. Of what happened before a checkpoint, openings and closes stay."""
         found, finds = library.Entry(), self._calls.finds
         for place in itertools.count(first):
             if not finds("look_entry", Status.NOTHING_THERE, self.number, place, found):

@@ -92,7 +92,7 @@ REQUESTS, VOLUME = "tests/library/requests", "tests/library/volume"
 CYLINDERS, CYLINDERS_LONG = "10", "841"
 
 # The most memory of a site, in times of the bytes of its volume: with it mounted, while it is mounted, during a checkpoint.
-MEMORY = 2.2, 2.2, 4.2
+MEMORY = 2.2, 2.2, 2.2
 
 # How many times the instructions of the same calls in Rattle, a site cycle of bench_steps, a request from C takes at most.
 MOST_TIMES = 1.3

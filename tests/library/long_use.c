@@ -1,5 +1,6 @@
 /* Issues and serves many requests, with a checkpoint after each so many: `long_use 100000 100`. The memory in use stays as it was
- * after the first checkpoint, and numbers of requests go on. Without checkpoints it grows, which shows that the measure sees it. */
+ * after the first checkpoint, and numbers of requests go on. Without checkpoints it grows, which shows that the measure sees it, and
+ * one more checkpoint gives that back. */
 #include "excp.h"
 
 #include <malloc.h>
@@ -7,7 +8,7 @@
 #include <stdlib.h>
 #include <string.h>
 
-enum { FEW = 2000, BASE = 0x1000, LENGTH = 0x68, MOST_GROWTH = 65536 };
+enum { FEW = 2000, BASE = 0x1000, LENGTH = 0x68, MOST_GROWTH = 65536, MOST_LEFT = 4096 };
 
 /* A request of DCB 1 with a no-operation. */
 static void put_request(uint8_t *storage)
@@ -77,6 +78,8 @@ int main(int count, char **words)
     grown = in_use();
     if (grown < ended + FEW * (size_t)LENGTH)
         return wrong("without checkpoints the memory in use does not grow, so this measures nothing", step + requests + FEW);
+    if (excp_checkpoint(&site, 0) != EXCP_OK || in_use() > ended + MOST_LEFT)
+        return wrong("a checkpoint after it does not give back the memory of what happened", step + requests + FEW);
     if (excp_site_free(&site) != EXCP_OK)
         return wrong("the site is not freed", 0);
     printf("%llu requests with checkpoints take %ld bytes more, %d without take %lu\n", (unsigned long long)requests,

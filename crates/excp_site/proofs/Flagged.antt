@@ -1,17 +1,30 @@
 -- DCBs in error.
-use Rattle.std.proofs.Common.{◌≡◌, ◌∙◌, ◌==◌, not, ℕ, true, List, ◌∷◌, ap, inl, inr, refl, subst, sym}
+use Rattle.std.proofs.Common.{◌≡◌, ◌∙◌, ◌==◌, not, ℕ, Bool, true, false, if◌then◌else◌, List, ◌∷◌, ap, inl, inr, refl, subst, sym}
 use Rattle.std.proofs.lemmas.Bool.{and_parts, cases_Bool, eqb-true}
 use Rattle.io_images.specs.declared.extent.Extent.{Extent}
 use Rattle.any_device.specs.declared.device.AnyDevice.{AnyDevice}
 use Rattle.unit_book.specs.Book.{Book}
-use Rattle.unit_book.specs.Dcbs.{dcb_state, flag, is_closed, is_opened}
-use Rattle.unit_book.specs.Trace.{opens}
-use Rattle.unit_book.specs.declared.dcb.DcbState.TheVariants.{Open}
+use Rattle.unit_book.specs.Dcbs.{dcb_state, flag, is_closed, is_of, is_open, is_opened}
+use Rattle.unit_book.specs.Trace.{active, opens}
+use Rattle.unit_book.specs.declared.dcb.DcbState.{DcbState}
+use Rattle.unit_book.specs.declared.dcb.DcbState.TheVariants.{Unknown, Open, Closing, Closed}
 use Rattle.unit_book.specs.declared.dcb.ProcessingMethod.{ProcessingMethod}
 use Rattle.unit_book.specs.declared.entry.Entry.{Entry}
 use Rattle.unit_book.specs.declared.entry.Entry.TheVariants.{Opened}
 use Rattle.excp_site.specs.Checkpoints.{IsFlagged}
-use Rattle.excp_site.proofs.Controls.{state-open}
+
+-- a DCB in the state Open is open
+state-open : (dcb : ℕ) (H : List Entry) → dcb_state dcb H ≡ Open → is_open dcb H ≡ true
+state-open dcb H h = elim (cases_Bool (is_opened dcb H)) [
+  | inl y ↦ elim (cases_Bool (is_closed dcb H)) [
+    | inl z ↦ absurd (not-open (is_of dcb H (active H)) (let g = rw y at h in rw z at g))
+    | inr n ↦ rw y (rw n refl)
+  ]
+  | inr n ↦ let g : Unknown ≡ Open = rw n at h in absurd cc
+] where
+  not-open : (b : Bool) → (if b then Closing else Closed) ≡ Open → ⊥
+  not-open true e = absurd cc
+  not-open false e = absurd cc
 
 -- this DCB is not open, or not in error
 abbrev pub Unflagged : Book AnyDevice → ℕ → Type 0

@@ -1,7 +1,6 @@
 -- The lemmas of excp_site.
 pub mod Refused
 pub mod Ranges
-pub mod Controls
 pub mod Resting
 pub mod Flagged
 pub mod Standing

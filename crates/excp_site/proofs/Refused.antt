@@ -76,9 +76,9 @@ errs (Ok x) P p = tt
 errs (Err e) P p = p
 
 -- a site whose lists by unit have the same items
-pub same-lists : (s : SiteView) (earlier : List (List ℕ)) (held : List ℕ) (beside : List (Option Kept)) → earlier ≡ s.earlier →
-    held ≡ s.held → beside ≡ s.beside → record s { earlier = earlier; held = held; beside = beside } ≡ s
-same-lists s earlier held beside e h b = rw (e, h, b) refl
+pub same-lists : (s : SiteView) (earlier : List (List ℕ)) (beside : List (Option Kept)) → earlier ≡ s.earlier → beside ≡ s.beside →
+    record s { earlier = earlier; beside = beside } ≡ s
+same-lists s earlier beside e b = rw (e, b) refl
 
 -- what a success says
 pub oks : {X E : Type 0} (r : Result X E) (P : Type 0) → P → OnOk r P

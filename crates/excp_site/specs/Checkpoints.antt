@@ -1,6 +1,6 @@
 -- WHAT A CHECKPOINT LEAVES (profile).
-use Rattle.std.specs.Prelude.{◌≡◌, ◌≤◌, ◌<◌, ◌+◌, ◌-◌, ◌^◌, ℕ, None, Option, Some, Bool, true, false, List, [], length, map, min, slice_set}
-use Rattle.std.specs.List.{filter, range_with_len}
+use Rattle.std.specs.Prelude.{◌≡◌, ◌≤◌, ◌<◌, ◌+◌, ◌-◌, ◌^◌, ℕ, None, Option, Some, true, List, length, map, min, slice_set}
+use Rattle.std.specs.List.{range_with_len}
 use Rattle.any_device.specs.Devices.{any_device}
 use Rattle.any_device.specs.declared.device.AnyDevice.{AnyDevice}
 use Rattle.medium_image.specs.Saving.{Forgets}
@@ -8,33 +8,12 @@ use Rattle.medium_image.specs.declared.image.Kept.{Kept}
 use Rattle.unit_book.specs.Book.{Book}
 use Rattle.unit_book.specs.Dcbs.{dcb_state, flag}
 use Rattle.unit_book.specs.declared.dcb.DcbState.TheVariants.{Open}
-use Rattle.unit_book.specs.Media.{device}
-use Rattle.unit_book.specs.declared.entry.Entry.{Entry}
-use Rattle.unit_book.specs.declared.entry.Entry.TheVariants.{Opened, Close}
-use Rattle.unit_world.specs.Parts.{UnitPart, issued_by, opening_part}
+use Rattle.unit_world.specs.Parts.{UnitPart, RenewsPart, issued_by}
 use Rattle.unit_world.specs.Sites.{IsAtRest, OnPart, OnUnit}
 use Rattle.excp_site.specs.Looks.{device_now}
-use Rattle.excp_site.specs.Sites.{HasPart, SiteView, beside_of, earlier_of, held_of}
+use Rattle.excp_site.specs.Sites.{HasPart, SiteView, beside_of, earlier_of}
 use Rattle.excp_site.specs.declared.refusal.Refusal.{Refusal}
 use Rattle.excp_site.specs.declared.refusal.Refusal.TheVariants.{NoMemory, NoUnit, NotIdle, InError}
-
--- a DCB was opened or closed
-abbrev pub is_control : Entry → Bool
-is_control (Opened dcb method extents) = true
-is_control (Close dcb) = true
-is_control _ = false
-
--- the openings and closes of a trace
-abbrev pub controls : List Entry → List Entry
-controls H = filter is_control H
-
--- A BOOK BEGUN AGAIN: it is on the device as it is, its DCBs were opened and closed as before, and nothing else happened
-pub record IsRenewed (old : Book AnyDevice) (held : ℕ) (new : Book AnyDevice) : Type 0 where
-  pub medium : new.mounted ≡ device any_device old.mounted old.trace
-  pub trace : new.trace ≡ controls old.trace
-  pub out : new.out ≡ []
-  pub capacity : new.capacity ≡ held
-  pub isc : new.isc ≡ old.isc
 
 -- how many requests of a task the unit had so far, up to 2^64 - 1
 abbrev pub count_after : SiteView → ℕ → UnitPart AnyDevice → ℕ → ℕ
@@ -55,12 +34,11 @@ BesideAfter None mounted now None = Unit {0}
 BesideAfter (Some old) mounted now (Some new) = Forgets old mounted now new
 BesideAfter _ mounted now _ = ⊥
 
--- A UNIT BEGINS AGAIN: the numbers of its requests go on, and the image of its medium stays the same; all else stays as it is
+-- A UNIT BEGINS AGAIN: the numbers of its requests go on, and the image of its medium stays the same. All else of the site stays
 pub record Checkpoints (old : SiteView) (unit : ℕ) (new : SiteView) : Type 0 where
   pub at_rest : IsAtRest old.plain unit
   pub no_error : OnPart old.plain unit (λ p. IsFlagged p.book → ⊥)
-  pub unit_is : OnUnit old.plain unit (λ p q. IsRenewed p.book (held_of old unit) q.book
-      × (q ≡ opening_part q.book (length old.plain.rows) p.intake_room)) new.plain
+  pub unit_is : OnUnit old.plain unit (λ p q. RenewsPart any_device (length old.plain.rows) p q) new.plain
   pub earlier : OnPart old.plain unit (λ p. new.earlier ≡ slice_set old.earlier unit (counts_after old unit p))
   pub image : OnPart old.plain unit (λ p. BesideAfter (beside_of old unit) p.book.mounted (device_now p.book) (beside_of new unit))
   pub beside : new.beside ≡ slice_set old.beside unit (beside_of new unit)

@@ -19,13 +19,12 @@ use Rattle.excp_site.specs.declared.refusal.Refusal.TheVariants.{NoMemory, BadNu
 use Rattle.excp_site.specs.declared.refusal.Refusal.TheVariants.{AreaPastTop, BadIob, BadEcb, BadProgram, WrongDcb, Full, NoNumber}
 
 -- the units and tasks; what the medium of the next unit has; how many requests of each task each unit had before its last
--- checkpoint; how many requests the book of each unit holds; what the image that a unit came from has beside its medium; the bytes
--- that were made last; and the channels alone, those that were freed as None
+-- checkpoint; what the image that a unit came from has beside its medium; the bytes that were made last; and the channels alone,
+-- those that were freed as None
 pub record SiteView : Type 0 where
   pub plain : SiteState AnyDevice
   pub medium : Medium
   pub earlier : List (List ℕ)
-  pub held : List ℕ
   pub beside : List (Option Kept)
   pub made : List ℕ
   pub channels : List (Option OwnChannel)
@@ -33,9 +32,6 @@ pub record SiteView : Type 0 where
 -- how many requests a task issued to a unit before its last checkpoint
 abbrev pub earlier_of : SiteView → ℕ → ℕ → ℕ
 earlier_of s unit task = slice_index_or (slice_index_or s.earlier unit []) task 0
-
-abbrev pub held_of : SiteView → ℕ → ℕ
-held_of s unit = slice_index_or s.held unit 1
 
 abbrev pub beside_of : SiteView → ℕ → Option Kept
 beside_of s unit = slice_index_or s.beside unit None
@@ -60,7 +56,6 @@ pub record MakesSite (tasks post_room : ℕ) (s : SiteView) : Type 0 where
   pub plain : s.plain ≡ record { units = []; post_room = post_room; rows = replicate tasks [] }
   pub medium : IsEmpty s.medium
   pub earlier : s.earlier ≡ []
-  pub held : s.held ≡ []
   pub beside : s.beside ≡ []
   pub made : s.made ≡ []
   pub channels : s.channels ≡ []
@@ -78,7 +73,6 @@ pub record AddsUnit (old : SiteView) (device : AnyDevice) (beside : Option Kept)
     units = old.plain.units ++ opening_part (record (opening device 0 held) { spare = spare }) (length old.plain.rows) in_flight ∷ [];
   }
   pub earlier : new.earlier ≡ old.earlier ++ replicate (length old.plain.rows) 0 ∷ []
-  pub held_is : new.held ≡ old.held ++ held ∷ []
   pub beside_is : new.beside ≡ old.beside ++ beside ∷ []
   pub made : new.made ≡ old.made
   pub channels : new.channels ≡ old.channels

@@ -37,8 +37,6 @@ pub struct Site {
     medium: Medium,
     /// By unit, and by task: how many requests of the task the unit had before its last checkpoint.
     earlier: Vec<Vec<u64>>,
-    /// By unit: how many requests its book holds at a time.
-    held: Vec<u32>,
     /// By unit: what the image that it came from has beside its medium.
     beside: Vec<Option<Kept>>,
     /// The bytes that were made last.
@@ -48,7 +46,7 @@ pub struct Site {
 }
 
 impl Model for Site {
-    ghost use Rattle.std.specs.Prelude.{◌≡◌, ◌≤◌, All, length, map, option_map};
+    ghost use Rattle.std.specs.Prelude.{◌≡◌, ◌≤◌, length, map, option_map};
     ghost use Rattle.excp_site.specs.Sites.{SiteView};
 
     ghost Value = { SiteView };
@@ -57,15 +55,13 @@ impl Model for Site {
       plain = s.plain;
       medium = s.medium;
       earlier = map (λ e. e.items) s.earlier.items;
-      held = s.held.items;
       beside = s.beside.items;
       made = s.made.items;
       channels = map (option_map (λ c. c.value)) s.channels.items;
     } };
 
     ghost invariant = { λ s. (length s.plain.units ≤ 65_535) × (length s.earlier.items ≡ length s.plain.units)
-        × (length s.held.items ≡ length s.plain.units) × (length s.beside.items ≡ length s.plain.units)
-        × All (λ h. (1 ≤ h) × (h ≤ 65_536)) s.held.items };
+        × (length s.beside.items ≡ length s.plain.units) };
 }
 
 impl Site {
@@ -85,7 +81,6 @@ impl Site {
             plain,
             medium: Medium::new(alloc),
             earlier: Vec::new(alloc),
-            held: Vec::new(alloc),
             beside: Vec::new(alloc),
             made: Vec::new(alloc),
             channels: Vec::new(alloc),

@@ -1,6 +1,6 @@
 -- Posts go into the rows of a site and out of them, and units come to it.
 use Rattle.std.proofs.Common.{◌≡◌, ◌<◌, ◌⊎◌, ℕ, zero, suc, eqb, true, false, Option, Some, None, List, [], ◌∷◌, ◌++◌, length, set, drop}
-use Rattle.std.proofs.Common.{map, replicate, refl, sym, ap, ◌∙◌, subst, inl, inr, arith, Bool, not, ◌&&◌, ◌==◌}
+use Rattle.std.proofs.Common.{replicate, refl, sym, ap, ◌∙◌, subst, inl, inr, arith, Bool, not, ◌&&◌, ◌==◌}
 use Rattle.std.specs.Prelude.{slice_get, slice_index_or}
 use Rattle.std.specs.List.{list_all}
 use Rattle.std.proofs.lemmas.List.{get_or-set_same, get_or-set_other, length_push as length-push, length-map, length-replicate, set-get_or}
@@ -29,7 +29,7 @@ use Rattle.unit_book.specs.declared.step.UnitAnswer.TheVariants.{Controlled}
 use Rattle.unit_book.specs.declared.step.UnitStep.TheVariants.{Control}
 use Rattle.unit_world.specs.Parts.{UnitPart, opening_part}
 use Rattle.unit_world.specs.PostLists.{list_of, with_value, without_value}
-use Rattle.unit_world.specs.Sites.{SiteState, MayBegin, IsFirstOut, IsSite, KeepsOthers, StepsUnit, from_unit, is_collected, world_at}
+use Rattle.unit_world.specs.Sites.{SiteState, IsFirstOut, IsSite, KeepsOthers, StepsUnit, from_unit, world_at}
 use Rattle.unit_world.specs.States.{WorldState, IsWorldState, MakesStep, StepName, CollectStep, DeliverStep}
 use Rattle.unit_world.proofs.Moves.{DeliversValue}
 use Rattle.unit_world.proofs.Sites.{eqb-other, fewer, first-own, from-row, less-other, less-own, others-stay, put-other, put-own, same-item}
@@ -70,6 +70,12 @@ at-push (z ∷ xs) x y (suc at) h = by_sum (at-push xs x y at h) where
   by_sum (inl e) = inl e
   by_sum (inr e) = inr (ap suc e.0, e.1)
 
+-- A UNIT MAY BEGIN WITH THIS BOOK: a list of steps leads from an opening world to one that has the book, and in which no task has
+-- sent anything
+abbrev pub MayBegin : {D : Type 0} → Meaning D → Book D → Type 0
+MayBegin meaning book = (unit post_room intake_room : ℕ) (back : List (List PostedState)) → ((task : ℕ) → list_of back task ≡ []) →
+    IsWorldState meaning (record { unit = unit; part = opening_part book (length back) intake_room; post_room = post_room; back = back })
+
 -- no post is of a unit that there is not
 none-of : (unit : ℕ) (vs : List PostedState) → Each (λ v. v.unit < unit) vs → from_unit unit vs ≡ []
 none-of unit [] h = refl
@@ -91,7 +97,7 @@ both-true true false h = absurd cc
 both-true false b h = absurd cc
 
 -- no post of the unit is in a row, if none waits
-none-waits : (unit task : ℕ) (rows : List (List PostedState)) → list_all (list_all (λ v. not (v.unit == unit))) rows ≡ true →
+pub none-waits : (unit task : ℕ) (rows : List (List PostedState)) → list_all (list_all (λ v. not (v.unit == unit))) rows ≡ true →
     from_unit unit (list_of rows task) ≡ []
 none-waits unit task [] h = refl
 none-waits unit zero (r ∷ rows) h = none-waits-in unit r (both-true (list_all (λ v. not (v.unit == unit)) r) _ h).0
@@ -205,14 +211,6 @@ module _ {D : Type 0} (meaning : Meaning D) where
           (after-set (λ (v : PostedState). v.unit < length old.units) old.rows task (drop 1 (list_of old.rows task)) site.of_units
           (λ lt. Each-rest (λ (v : PostedState). v.unit < length old.units) (list_of old.rows task) (site.of_units task))
           (has-list old.rows task value e))
-
-  -- A UNIT BEGINS AGAIN
-  pub renewed-unit : (old : SiteState D) (unit : ℕ) (before : UnitPart D) (book : Book D) (intake : ℕ) →
-      IsWorldState meaning (world_at old unit before) → is_collected old unit ≡ true → MayBegin meaning book →
-      IsWorldState meaning (world_at old unit (opening_part book (length before.issued) intake))
-  renewed-unit old unit before book intake world collected begins =
-      subst (λ n. IsWorldState meaning (world_at old unit (opening_part book n intake))) world.tasks
-      (begins unit old.post_room intake (map (from_unit unit) old.rows) (λ task. from-row unit task old.rows ∙ none-waits unit task old.rows collected))
 
   -- a book in which DCBs were opened and nothing else happened
   pub opened-begins : (book : Book D) → Legal meaning book.mounted book.trace → list_all is_opening book.trace ≡ true →

@@ -7,5 +7,6 @@ pub mod States
 pub mod Sites
 pub mod Sides
 pub mod Deliveries
+mod Renewals
 pub mod Sends
 pub mod Calls

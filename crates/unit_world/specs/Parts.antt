@@ -10,6 +10,7 @@ use Rattle.unit_book.specs.declared.entry.Entry.TheVariants.{Arrive}
 use Rattle.unit_book.specs.Answers.{Extends}
 use Rattle.unit_book.specs.Book.{Book, is_pending, occupancy}
 use Rattle.unit_book.specs.Dooms.{after_dooms}
+use Rattle.unit_book.specs.Renewal.{Renews}
 use Rattle.unit_book.specs.Settle.{IsIdle}
 use Rattle.unit_book.specs.Trace.{arrived_of}
 use Rattle.unit_world.specs.declared.active.ActiveState.{ActiveState}
@@ -39,6 +40,11 @@ next_name_of issued task = next_name_from task (slice_get issued task)
 -- the unit to which nothing was sent
 abbrev pub opening_part : {D : Type 0} → Book D → ℕ → ℕ → UnitPart D
 opening_part book tasks intake_room = record { book = book; intake_room = intake_room; flight = []; issued = replicate tasks 0 }
+
+-- A UNIT BEGINS AGAIN: its book does, and nothing was sent to it
+pub record RenewsPart {D : Type 0} (meaning : Meaning D) (tasks : ℕ) (old new : UnitPart D) : Type 0 where
+  pub book : Renews meaning old.book new.book
+  pub is : new ≡ opening_part new.book tasks old.intake_room
 
 -- what contracts see of the fields of a unit
 abbrev pub unit_part : {D : Type 0} → UnitSide D → UnitPart D

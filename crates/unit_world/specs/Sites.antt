@@ -10,7 +10,7 @@ use Rattle.unit_book.specs.declared.answer.Delivery.TheVariants as delivery
 use Rattle.unit_book.specs.Book.{Book}
 use Rattle.unit_book.specs.Lists.{Each}
 use Rattle.unit_book.specs.Settle.{AddsService, Settles}
-use Rattle.unit_world.specs.Parts.{UnitPart, IsFinishedPart, opening_part}
+use Rattle.unit_world.specs.Parts.{UnitPart, IsFinishedPart}
 use Rattle.unit_world.specs.PostLists.{list_of, with_value, without_value}
 use Rattle.unit_world.specs.States.{WorldState, IsWorldState, KeepsLaws, MakesStep, MakesSteps, StepName}
 
@@ -84,12 +84,6 @@ pub record IsAtRest {D : Type 0} (s : SiteState D) (unit : ℕ) : Type 0 where
   pub finished : OnPart s unit IsFinishedPart
   pub out : OnPart s unit (λ p. p.book.out ≡ [])
   pub collected : is_collected s unit ≡ true
-
--- A UNIT MAY BEGIN WITH THIS BOOK: a list of steps leads from an opening world to one that has the book, and in which no task has
--- sent anything
-abbrev pub MayBegin : {D : Type 0} → Meaning D → Book D → Type 0
-MayBegin meaning book = (unit post_room intake_room : ℕ) (back : List (List PostedState)) → ((task : ℕ) → list_of back task ≡ []) →
-    IsWorldState meaning (record { unit = unit; part = opening_part book (length back) intake_room; post_room = post_room; back = back })
 
 -- what `deliver` answers: quiet if nothing is out at the unit, full if the row of the task is
 abbrev pub DeliversAs : {D : Type 0} → SiteState D → ℕ → Delivery → SiteState D → Type 0

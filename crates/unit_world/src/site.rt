@@ -7,13 +7,13 @@ ghost use Rattle.std.specs.Prelude.{◌≡◌, ◌<◌, ◌≤◌, ◌∷◌, �
 ghost use Rattle.std.specs.List.{list_all};
 ghost use Rattle.unit_book.specs.Book.{occupancy};
 ghost use Rattle.unit_book.specs.Trace.{is_opening};
-ghost use Rattle.unit_world.specs.Parts.{PartAccepts, PartTakes, next_name_of, opening_part};
+ghost use Rattle.unit_world.specs.Parts.{PartAccepts, PartTakes, RenewsPart, next_name_of, opening_part};
 ghost use Rattle.unit_world.specs.PostLists.{list_of};
-ghost use Rattle.unit_world.specs.Sites.{MayBegin, CollectsPost, DeliversAs, IsAtRest, IsSite, KeepsSiteLaws, OnPart, OnUnit};
+ghost use Rattle.unit_world.specs.Sites.{CollectsPost, DeliversAs, IsAtRest, IsSite, KeepsSiteLaws, OnPart, OnUnit};
 
 use crate::post_lists::PostLists;
 use crate::unit_side::{UnitSide, send_back};
-use device_port::Device;
+use device_port::{Device, FixedSize};
 use request_piece::{Posted, Request};
 use std::alloc::{AllocError, AllocFailed, Global};
 use std::marker::Model;
@@ -75,18 +75,6 @@ impl<D: Device> PlainSite<D> {
         Ok(unit)
     }
 
-    /// Gives a unit at rest this book in place of its own. So its world begins again: its requests get the numbers from 1 on
-    /// (profile). Never allocates.
-    pub fn renew(&mut self, unit: u16, book: UnitBook<D>)
-        requires begins { MayBegin D.meaning book }
-        requires unit { unit < length self.old.units }
-        requires rest { IsAtRest self.old unit }
-        ensures { OnUnit self.old unit (λ p q. q ≡ opening_part book (length self.old.rows) p.intake_room) self.new }
-    {
-        let side = &mut self.units[usize::from(unit)];
-        side.renew(book);
-    }
-
     /// What holds of every site: a list of steps led to the world of each unit, so that unit keeps its requests.
     pub fn holds(&self)
         ensures site { IsSite D.meaning self.now }
@@ -144,5 +132,17 @@ impl<D: Device> PlainSite<D> {
         ensures none { IfNone result (self.new ≡ self.old) }
     {
         self.rows.pop(task)
+    }
+}
+
+impl<D: FixedSize> PlainSite<D> {
+    /// Begins a unit at rest again ([`UnitBook::renew`]), in a new world. Its requests get the numbers from 1 on (profile).
+    pub fn renew(&mut self, unit: u16)
+        requires unit { unit < length self.old.units }
+        requires rest { IsAtRest self.old unit }
+        ensures { OnUnit self.old unit (λ p q. RenewsPart D.meaning (length self.old.rows) p q) self.new }
+    {
+        let side = &mut self.units[usize::from(unit)];
+        side.renew();
     }
 }

@@ -3,12 +3,13 @@
 ghost use Rattle.std.specs.Prelude.{◌≡◌, ◌<◌, ◌≤◌, ◌↔◌, [], length, option_map, replicate, slice_get, Some, IfErr, IfOk, IsTrue, OnErr, OnOk};
 ghost use Rattle.circular_buffer.specs.Buffer.{buffer};
 ghost use Rattle.unit_book.specs.Book.{occupancy};
-ghost use Rattle.unit_world.specs.Parts.{HasNextNumber, IsFinishedPart, PartAccepts, PartTakes, next_name_of, opening_part, unit_part};
+ghost use Rattle.unit_book.specs.Legal.{Legal};
+ghost use Rattle.unit_world.specs.Parts.{HasNextNumber, IsFinishedPart, PartAccepts, PartTakes, RenewsPart, issued_by, next_name_of, opening_part, unit_part};
 ghost use Rattle.unit_world.specs.Sending.{IsForRows, SendsBack};
 
 use crate::post_lists::PostLists;
 use circular_buffer::HeapCircularBuffer;
-use device_port::Device;
+use device_port::{Device, FixedSize};
 use request_piece::{Name, Request};
 use std::alloc::{AllocError, AllocFailed, Global};
 use unit_book::{Delivery, Intake, UnitBook};
@@ -61,15 +62,6 @@ impl<D: Device> UnitSide<D> {
             }),
             Err(_) => Err(AllocFailed { value: book }),
         }
-    }
-
-    /// Has another book in place of its own. Nothing was sent to it then. Nothing is in flight.
-    pub fn renew(&mut self, book: UnitBook<D>)
-        requires { (unit_part self.old).flight ≡ [] }
-        ensures { unit_part self.new ≡ opening_part book (length (unit_part self.old).issued) (unit_part self.old).intake_room }
-    {
-        self.book = book;
-        self.issued.fill(0);
     }
 
     /// Accepts the next request of a task for this unit. Never allocates.
@@ -126,6 +118,13 @@ impl<D: Device> UnitSide<D> {
         })
     }
 
+    /// How many requests a task sent; 0 if there is no such task.
+    pub fn issued_by(&self, task: u16) -> u32
+        ensures { result ≡ issued_by (unit_part self.now).issued task }
+    {
+        *self.issued.get(usize::from(task)).unwrap_or(&0)
+    }
+
     /// The name of the request in flight at a place.
     pub fn flight_name(&self, at: usize) -> Option<Name>
         ensures { result ≡ option_map (λ r. r.name) (slice_get (unit_part self.now).flight at) }
@@ -141,6 +140,20 @@ impl<D: Device> UnitSide<D> {
         ensures { IsTrue result ↔ IsFinishedPart (unit_part self.now) }
     {
         self.flight.is_empty() && self.book.waiting_len() == 0 && self.book.active_name().is_none()
+    }
+}
+
+impl<D: FixedSize> UnitSide<D> {
+    /// Begins again with its book ([`UnitBook::renew`]). Nothing is in flight, and then nothing was sent.
+    pub fn renew(&mut self)
+        requires finished { IsFinishedPart (unit_part self.old) }
+        requires out { self.old.book.out ≡ [] }
+        ensures part { RenewsPart D.meaning (length (unit_part self.old).issued) (unit_part self.old) (unit_part self.new) }
+        ensures legal { Legal D.meaning self.new.book.mounted self.new.book.trace }
+    {
+        self.book.renew();
+        self.book.holds();
+        self.issued.fill(0);
     }
 }
 

@@ -1,28 +1,24 @@
-//! A checkpoint: a unit gets a new book on its medium as it is, so that its memory does not grow with each request.
+//! A checkpoint: the book of a unit begins again on its medium as it is, so that its memory does not grow with each request.
 
-ghost use Rattle.std.specs.Prelude.{◌≡◌, ◌++◌, ◌+◌, ◌-◌, ◌^◌, ◌<◌, ◌≤◌, ◌∷◌, [], false, true, length, map, min, slice_set, IfErr, IfOk, OnErr, OnOk};
+ghost use Rattle.std.specs.Prelude.{◌≡◌, ◌<◌, length, slice_set, true, IfErr, IfOk, OnErr, OnOk};
 ghost use Rattle.std.specs.Bool.{OnFalse, OnTrue};
-ghost use Rattle.std.specs.List.{list_all, range_with_len};
-ghost use Rattle.any_device.specs.Devices.{any_device};
 ghost use Rattle.unit_book.specs.Dcbs.{dcb_state, flag};
 ghost use Rattle.unit_book.specs.declared.dcb.DcbState.TheVariants as DcbState;
-ghost use Rattle.unit_book.specs.declared.entry.Entry.TheVariants as Entry;
-ghost use Rattle.unit_world.specs.Sites.{MayBegin, IsAtRest, OnPart};
-ghost use Rattle.excp_site.specs.Checkpoints.{CheckpointRefused, Checkpoints, BesideAfter, IsFlagged, IsRenewed, controls, count_after, counts_after, is_control};
+ghost use Rattle.unit_world.specs.Sites.{IsAtRest, OnPart};
+ghost use Rattle.excp_site.specs.Checkpoints.{CheckpointRefused, Checkpoints, BesideAfter, IsFlagged, count_after, counts_after};
 ghost use Rattle.excp_site.specs.Looks.{device_now};
-ghost use Rattle.excp_site.specs.Sites.{beside_of, held_of};
-ghost use Rattle.excp_site.specs.declared.refusal.Refusal.TheVariants as Refusal;
+ghost use Rattle.excp_site.specs.Sites.{beside_of};
 
 use crate::refusal::Refusal;
 use crate::site::Site;
 use any_device::AnyDevice;
-use device_port::Device;
-use std::alloc::{AllocError, Global};
+use std::alloc::AllocError;
 use unit_book::{DcbState, Entry, UnitBook};
 
 impl Site {
-    /// Gives a unit at rest a new book on its device as it is, with its DCBs opened and closed as before. What else happened is
-    /// forgotten. Numbers of requests go on ([`Site::number`]). A new book copies the medium.
+    /// Begins a unit at rest again, on its device as it is, with its DCBs opened and closed as before. What else happened is
+    /// forgotten, and its memory given back. Numbers of requests go on ([`Site::number`]). It takes time in the bytes recorded on
+    /// the medium, what happened, and the posts that wait.
     ///
     /// Errors, in this order: `NoUnit`; `NotIdle` if a request is in flight, waits, is active or out, or a post is not collected;
     /// `InError` if an open DCB is in error; `NoMemory`.
@@ -35,14 +31,12 @@ impl Site {
         if !self.is_at_rest(unit) {
             return Err(Refusal::NotIdle);
         }
-        let book = self.plain.book(unit);
-        if has_error(book) {
+        if has_error(self.plain.book(unit)) {
             return Err(Refusal::InError);
         }
-        let renewed = renewed(self.alloc, book, self.held_of(unit))?;
         let counts = self.counts_after(unit)?;
         self.forget_written(unit);
-        self.plain.renew(unit, renewed);
+        self.plain.renew(unit);
         self.earlier[usize::from(unit)] = counts;
         Ok(())
     }
@@ -75,16 +69,6 @@ impl Site {
         self.plain.is_collected(unit)
     }
 
-    /// How many requests the book of a unit holds at a time.
-    fn held_of(&self, unit: u16) -> usize
-        requires unit { unit < length self.now.plain.units }
-        ensures value { result ≡ held_of self.now unit }
-        ensures some { 1 ≤ result }
-        ensures few { result ≤ 65536 }
-    {
-        self.held[usize::from(unit)] as usize
-    }
-
     /// How many requests of each task a unit had so far.
     fn counts_after(&self, unit: u16) -> Result<Vec<u64>, AllocError>
         requires unit { unit < length self.now.plain.units }
@@ -104,16 +88,10 @@ impl Site {
     /// How many requests of a task a unit had so far.
     fn count_after(&self, unit: u16, task: u16) -> u64
         requires unit { unit < length self.now.plain.units }
-        requires task { task < length self.now.plain.rows }
         ensures { OnPart self.now.plain unit (λ p. result ≡ count_after self.now unit p task) }
     {
-        self.plain.holds();
-        let issued = match self.plain.next_name(task, unit) {
-            Some(name) => name.seq - 1,
-            None => u32::MAX,
-        };
         self.earlier_of(unit, task)
-            .saturating_add(u64::from(issued))
+            .saturating_add(u64::from(self.plain.issued_by(task, unit)))
     }
 }
 
@@ -138,68 +116,4 @@ fn is_flagged(book: &UnitBook<AnyDevice>, dcb: u16) -> bool
     ensures no { OnFalse result (dcb_state dcb book.now.trace ≡ DcbState.Open → flag dcb book.now.trace ≡ true → ⊥) }
 {
     book.dcb_state(dcb) == DcbState::Open && book.dcb_flag(dcb)
-}
-
-/// A new book on the device of a book as it is, with its DCBs opened and closed as before.
-fn renewed(
-    alloc: Global,
-    book: &UnitBook<AnyDevice>,
-    held: usize,
-) -> Result<UnitBook<AnyDevice>, AllocError>
-    requires some { 1 ≤ held }
-    requires few { held ≤ 65536 }
-    ensures renewed { IfOk result (IsRenewed book.now held) }
-    ensures begins { IfOk result (MayBegin any_device) }
-{
-    let device = book.device().copy()?;
-    let Ok(mut renewed) = UnitBook::new(alloc, device, book.isc(), held) else {
-        return Err(AllocError);
-    };
-    renewed.holds();
-    for entry in book.trace() {
-        again(&mut renewed, entry)?;
-    }
-    renewed.holds();
-    Ok(renewed)
-}
-
-/// Opens or closes a DCB as an entry did, at a book at which nothing else happened. Another entry adds nothing.
-fn again(book: &mut UnitBook<AnyDevice>, entry: &Entry) -> Result<(), AllocError>
-    requires controls { list_all is_control book.old.trace ≡ true }
-    requires begins { MayBegin any_device book.old }
-    ensures trace { OnOk result (book.new.trace ≡ controls (entry.now ∷ []) ++ book.old.trace) }
-    ensures mounted { OnOk result (book.new.mounted ≡ book.old.mounted) }
-    ensures capacity { OnOk result (book.new.capacity ≡ book.old.capacity) }
-    ensures isc { OnOk result (book.new.isc ≡ book.old.isc) }
-    ensures begins { OnOk result (MayBegin any_device book.new) }
-{
-    match entry {
-        // a DCB gets the number that it had, so the test never fails
-        Entry::Opened(number, method, extents) => match book.open(*method, extents.as_slice()) {
-            Ok(dcb) if dcb == *number => Ok(()),
-            _ => Err(AllocError),
-        },
-        Entry::Close(dcb) => close_again(book, *dcb),
-        _ => Ok(()),
-    }
-}
-
-/// Closes an open DCB of a book at which DCBs were opened and closed and nothing else happened.
-fn close_again(book: &mut UnitBook<AnyDevice>, dcb: u16) -> Result<(), AllocError>
-    requires controls { list_all is_control book.old.trace ≡ true }
-    requires begins { MayBegin any_device book.old }
-    ensures trace { OnOk result (book.new.trace ≡ Entry.Close dcb ∷ book.old.trace) }
-    ensures mounted { OnOk result (book.new.mounted ≡ book.old.mounted) }
-    ensures capacity { OnOk result (book.new.capacity ≡ book.old.capacity) }
-    ensures isc { OnOk result (book.new.isc ≡ book.old.isc) }
-    ensures begins { OnOk result (MayBegin any_device book.new) }
-{
-    match book.dcb_state(dcb) {
-        DcbState::Open => match book.close(dcb) {
-            Ok(_) => Ok(()),
-            Err(_) => Err(AllocError),
-        },
-        // it was open when it was closed, so none is in another state
-        _ => Err(AllocError),
-    }
 }

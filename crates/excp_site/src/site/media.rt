@@ -212,12 +212,10 @@ impl Site {
         let tasks = self.plain.tasks();
         let none = vec![in self.alloc; 0; tasks]?;
         self.earlier.reserve(1)?;
-        self.held.reserve(1)?;
         self.beside.reserve(1)?;
         match self.plain.add_unit(book, room.in_flight as usize) {
             Ok(unit) => {
                 self.earlier.push_reserved(none);
-                self.held.push_reserved(room.held);
                 self.beside.push_reserved(beside);
                 self.medium = Medium::new(self.alloc);
                 Ok(unit)

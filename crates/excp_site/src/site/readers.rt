@@ -100,7 +100,8 @@ impl Site {
         }
     }
 
-    /// The entry at a place of the trace of a unit, counted from 0, the oldest first. Those before its last checkpoint are gone.
+    /// The entry at a place of the trace of a unit, counted from 0, the oldest first. Of those before its last checkpoint, openings
+    /// and closes stay.
     ///
     /// Errors: `NoUnit`, `NothingThere`.
     pub fn entry(&self, unit: u16, place: u32) -> Result<&Entry, Refusal>

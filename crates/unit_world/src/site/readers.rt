@@ -3,7 +3,7 @@
 ghost use Rattle.std.specs.Prelude.{◌≡◌, ◌<◌, ◌↔◌, length, option_map, slice_get, IsTrue};
 ghost use Rattle.std.specs.Option.{option_copied};
 ghost use Rattle.unit_book.specs.Trace.{active};
-ghost use Rattle.unit_world.specs.Parts.{IsFinishedPart, active_state, next_name_of};
+ghost use Rattle.unit_world.specs.Parts.{IsFinishedPart, active_state, issued_by, next_name_of};
 ghost use Rattle.unit_world.specs.PostLists.{list_of};
 ghost use Rattle.unit_world.specs.Sites.{OnPart, is_collected};
 
@@ -45,6 +45,15 @@ impl<D: Device> PlainSite<D> {
     {
         let side = &self.units[usize::from(unit)];
         side.next_name(task)
+    }
+
+    /// How many requests a task sent to a unit; 0 if there is no such task.
+    pub fn issued_by(&self, task: u16, unit: u16) -> u32
+        requires unit { unit < length self.now.units }
+        ensures { OnPart self.now unit (λ p. result ≡ issued_by p.issued task) }
+    {
+        let side = &self.units[usize::from(unit)];
+        side.issued_by(task)
     }
 
     /// How many requests are in flight to a unit.

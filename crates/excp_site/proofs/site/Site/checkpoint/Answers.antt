@@ -6,11 +6,10 @@ use Rattle.std.proofs.lemmas.List.{map-set}
 use Rattle.any_device.specs.declared.device.AnyDevice.{AnyDevice}
 use Rattle.medium_image.specs.declared.image.Kept.{Kept}
 use Rattle.unit_book.specs.Book.{Book}
-use Rattle.unit_world.specs.Parts.{UnitPart, opening_part}
 use Rattle.unit_world.specs.Sites.{IsAtRest, OnPart, SiteState}
-use Rattle.excp_site.specs.Checkpoints.{CheckpointRefused, Checkpoints, BesideAfter, IsFlagged, IsRenewed, counts_after}
+use Rattle.excp_site.specs.Checkpoints.{CheckpointRefused, Checkpoints, BesideAfter, IsFlagged, counts_after}
 use Rattle.excp_site.specs.Looks.{device_now}
-use Rattle.excp_site.specs.Sites.{SiteView, beside_of, held_of}
+use Rattle.excp_site.specs.Sites.{SiteView, beside_of}
 use Rattle.excp_site.specs.contracts.site.Site.{the_view}
 use Rattle.excp_site.specs.declared.refusal.Refusal.TheVariants.{NoMemory}
 use Rattle.excp_site.proofs.Refused.{refuses}
@@ -28,14 +27,6 @@ returns-clause-ok c =
     let old : SiteView = record now { beside = s.beside } in
     let same : old ≡ s = ap (λ (v : SiteView). record v { beside = s.beside }) is in
     let plain_is : i.plain ≡ c.self.inside.plain = ap (λ (v : SiteView). v.plain) is ∙ sym (ap (λ (v : SiteView). v.plain) c.self.view_is) in
-    let at = subst (λ (x : SiteState AnyDevice). slice_get x.units unit ≡ Some r.before) plain_is r.at in
-    let book_is : r.after.book ≡ c.in_ok-renewed.renewed = ap (λ (p : UnitPart AnyDevice). p.book) r.does in
-    let held_is : c.held_of.result ≡ held_of old unit = c.held_of.ensures.value ∙ ap (λ (v : SiteView). held_of v unit) (sym same) in
-    let of_old = subst (λ (b : Book AnyDevice). IsRenewed b c.held_of.result c.in_ok-renewed.renewed) (c.book-book.ensures r.before at)
-    c.in_ok-renewed.ensures.renewed in
-    let of_held = subst (λ (n : ℕ). IsRenewed r.before.book n c.in_ok-renewed.renewed) held_is of_old in
-    let of_new = subst (λ (b : Book AnyDevice). IsRenewed r.before.book (held_of old unit) b) (sym book_is) of_held in
-    let part_is = r.does ∙ ap (λ (b : Book AnyDevice). opening_part b (length i.plain.rows) r.before.intake_room) (sym book_is) in
     let counts = subst (λ (v : SiteView). OnPart v.plain unit (λ p. c.in_ok-counts.counts.items ≡ counts_after v unit p)) (sym same)
     c.in_ok-counts.ensures in
     let beside_is : i.beside.items ≡ pruned.beside = ap (λ (v : SiteView). v.beside) c.self-2.view_is in
@@ -46,8 +37,8 @@ returns-clause-ok c =
     (record {
       at_rest = subst (λ (v : SiteView). IsAtRest v.plain unit) (sym same) c.if-not-is_at_rest.ensures.rest;
       no_error = λ p here. subst (λ (b : Book AnyDevice). IsFlagged b → ⊥)
-          (c.book-book.ensures p (subst (λ (x : SiteState AnyDevice). slice_get x.units unit ≡ Some p) plain_is here)) c.if-has_error.ensures.none;
-      unit_is = record { before = r.before; after = r.after; at = r.at; does = (of_new, part_is); is = r.is };
+          (c.book.ensures p (subst (λ (x : SiteState AnyDevice). slice_get x.units unit ≡ Some p) plain_is here)) c.if-has_error.ensures.none;
+      unit_is = record { before = r.before; after = r.after; at = r.at; does = r.does; is = r.is };
       earlier = λ p here. map-set (λ e. e.items) i.earlier.items c.from.result c.in_ok-counts.counts
           ∙ ap (λ (u : ℕ). set (map (λ e. e.items) i.earlier.items) u c.in_ok-counts.counts.items) c.from.ensures
           ∙ ap (λ (xs : List ℕ). set (map (λ e. e.items) i.earlier.items) unit xs) (counts p here);
@@ -62,6 +53,6 @@ pub returns-in_err-counts-clause-refused : goal.returns-in_err-counts-clause-ref
 returns-in_err-counts-clause-refused c =
     let unit = c.args.unit in
     let none = subst (λ (v : SiteView). OnPart v.plain unit (λ p. IsFlagged p.book → ⊥)) c.self.view_is
-    (λ p at. subst (λ (b : Book AnyDevice). IsFlagged b → ⊥) (c.book-book.ensures p at) c.if-has_error.ensures.none) in
+    (λ p at. subst (λ (b : Book AnyDevice). IsFlagged b → ⊥) (c.book.ensures p at) c.if-has_error.ensures.none) in
     refuses c.from_residual-in_err-counts.result NoMemory (CheckpointRefused c.args.self.now unit)
     c.from_residual-in_err-counts.ensures.1 (c.if-not-is_at_rest.ensures.rest, (c.in_ok-has_unit.ensures.there, none))
