@@ -6,6 +6,7 @@ tests/cases/c/*.c are linked with each library and run; a program that finds a f
 has the library fill each struct.
 """
 
+import glob
 import importlib
 import os
 import re
@@ -62,9 +63,9 @@ STEPS = {
 OWN_STATUSES = {"OK": 0, "NULL_POINTER": 2, "NO_SITE": 3, "SITE_IN_USE": 4}
 
 
-def sources():
-    """The Rattle files of the exports, one after the other."""
-    return "\n".join(read(f"{CRATE}/src/{name}") for name in sorted(os.listdir(f"{CRATE}/src")))
+def sources(crate=CRATE):
+    """The Rattle files of the exports, or of another crate, one after the other."""
+    return "\n".join(read(name) for name in sorted(glob.glob(f"{crate}/src/**/*.rt", recursive=True)))
 
 
 def snake(name):
@@ -133,9 +134,10 @@ def steps_agree():
 
 
 def structs_agree():
-    """Each struct of the header has the fields of the struct of the exports with its name, in one order and with the same types."""
+    """Each struct of the header has the fields of the struct with its name in the exports or the site, in one order and with the same
+    types."""
     c_structs = {name: C_FIELD.findall(body) for name, body in C_STRUCT.findall(read(HEADER))}
-    structs = {snake(name).lower(): FIELD.findall(body) for name, body in STRUCT.findall(sources())}
+    structs = {snake(name).lower(): FIELD.findall(body) for name, body in STRUCT.findall(sources() + sources(f"{TOP}/crates/excp_site"))}
     c_structs = {name: [(field, TYPES.get(kind, kind)) for kind, field in fields] for name, fields in c_structs.items()}
     require(len(c_structs) > 8, f"{len(c_structs)} structs")
     for name, fields in c_structs.items():

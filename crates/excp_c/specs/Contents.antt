@@ -3,7 +3,7 @@ use Rattle.std.specs.Prelude.{ℕ, ◌+◌, ◌*◌, List, length, min, slice_in
 use Rattle.ckd_disk.specs.Record.{Record as OnTrack}
 use Rattle.line_printer.specs.Paper.{Line as Printed}
 use Rattle.tape_unit.specs.Item.{Item as OnTape, content_of, is_mark}
-use Rattle.excp_c.specs.Numbers.{as_bit}
+use Rattle.excp_site.specs.Numbers.{as_bit}
 use Rattle.excp_c.specs.declared.contents.Item.{Item}
 use Rattle.excp_c.specs.declared.contents.Line.{Line}
 use Rattle.excp_c.specs.declared.contents.Record.{Record}

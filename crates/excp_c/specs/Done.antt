@@ -1,5 +1,5 @@
 -- WHAT A CALL DID: what the call of the site does (excp_site), or why the site refused it.
-use Rattle.std.specs.Prelude.{◌≡◌, ◌≤◌, ◌<◌, ◌⊎◌, ℕ, false, MatchOption, Option, Some, None, List, length, slice_get}
+use Rattle.std.specs.Prelude.{◌≡◌, ◌<◌, ◌⊎◌, ℕ, false, MatchOption, Option, Some, None, List, length, slice_get}
 use Rattle.io_area.specs.Storage.{Storage}
 use Rattle.io_images.specs.declared.extent.Extent.{Extent}
 use Rattle.any_device.specs.Devices.{any_device}
@@ -20,15 +20,12 @@ use Rattle.unit_world.specs.Sites.{SiteState, CollectsPost, DeliversAs, OnBook, 
 use Rattle.excp_site.specs.Media.{IsEmpty}
 use Rattle.excp_site.specs.declared.refusal.Refusal.{Refusal}
 use Rattle.excp_site.specs.declared.refusal.Refusal.TheVariants.{BadNumber, NoMemory}
-use Rattle.excp_site.specs.Serving.{HasSettled, IsServedFor}
-use Rattle.excp_site.specs.declared.served.Served.{Served}
+use Rattle.excp_site.specs.Serving.{HasSettled}
 use Rattle.excp_site.specs.Extents.{extents_in}
 use Rattle.excp_site.specs.Reasons.{LeavesReason, has_reason}
 use Rattle.excp_site.specs.Refusals.{ExtentsRefused, HasTaskOf, OpenCallLeaves, OpenCallRefused, StepCallRefused}
 use Rattle.excp_site.specs.Sites.{AddsUnit, HasPart, IssuesRequest, MakesSite, NewRefused, SiteView, number_of}
 use Rattle.excp_c.specs.Answers.{answer_in_c}
-use Rattle.excp_c.specs.Numbers.{end_number}
-use Rattle.excp_c.specs.declared.events.Served.{Served as Answered}
 use Rattle.excp_c.specs.Statuses.{status_in_c}
 use Rattle.excp_c.specs.declared.answer.Answer.{Answer}
 use Rattle.excp_c.specs.declared.answer.Event.{Event}
@@ -144,12 +141,6 @@ StorageIsLonger s task room = (post : PostedState) × IsFirstPost s task post ×
 -- A POST was collected
 abbrev pub SiteCollects : ℕ → SiteView → SiteView → Type 0
 SiteCollects task s t = CollectsPost s.plain task t.plain × OnlyPlain s t
-
--- A UNIT WAS SERVED, and the answer was written out
-abbrev pub SiteServes : ℕ → ℕ → Answered → SiteView → SiteView → Type 0
-SiteServes unit max served s t =
-    (answer : Served) × IsServedFor s.plain unit max answer t.plain × OnlyPlain s t ×
-    (served ≡ record { posts = answer.posts; commands = answer.commands; ended = end_number answer.ended })
 
 -- A UNIT WAS SETTLED
 abbrev pub SiteSettles : ℕ → SiteView → SiteView → Type 0

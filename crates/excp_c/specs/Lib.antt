@@ -1,13 +1,12 @@
 pub mod Answers
 pub mod Buffers
 pub mod Calls
-pub mod Channels
 pub mod Contents
 pub mod Done
 pub mod Entries
 pub mod Lending
-pub mod Looks
 pub mod Numbers
 pub mod Owned
+pub mod Posts
 pub mod Readers
 pub mod Statuses

@@ -1,10 +1,6 @@
--- THE NUMBERS of c/excp.h: methods, modes, and what a look shows; and those of steps, in c/excp.c.
-use Rattle.std.specs.Prelude.{◌==◌, ℕ, zero, suc, Bool, true, false, if◌then◌else◌, Option, Some, None, min, nat_le}
+-- THE NUMBERS of c/excp.h that a caller gives: methods, modes and faults; and those of steps, in c/excp.c.
+use Rattle.std.specs.Prelude.{◌==◌, ℕ, zero, suc, if◌then◌else◌, Option, Some, None, nat_le}
 use Rattle.device_port.specs.declared.faults.Fault.{Fault}
-use Rattle.device_port.specs.declared.kind.Kind.{Kind}
-use Rattle.device_port.specs.declared.kind.Kind.TheVariants as kinds
-use Rattle.unit_book.specs.declared.dcb.DcbState.{DcbState}
-use Rattle.unit_book.specs.declared.dcb.DcbState.TheVariants as dcbs
 use Rattle.unit_book.specs.declared.dcb.ProcessingMethod.{ProcessingMethod}
 use Rattle.unit_book.specs.declared.dcb.ProcessingMethod.TheVariants as methods
 use Rattle.unit_book.specs.declared.entry.Mode.{Mode}
@@ -15,10 +11,6 @@ use Rattle.unit_book.specs.declared.control.Control.{Control}
 use Rattle.unit_book.specs.declared.control.Control.TheVariants as control
 use Rattle.unit_book.specs.declared.step.UnitStep.{UnitStep}
 use Rattle.unit_book.specs.declared.step.UnitStep.TheVariants as step
-use Rattle.unit_world.specs.declared.active.ActiveState.{ActiveState}
-use Rattle.unit_world.specs.declared.active.ActiveState.TheVariants as actives
-use Rattle.excp_site.specs.declared.served.ServedEnd.{ServedEnd}
-use Rattle.excp_site.specs.declared.served.ServedEnd.TheVariants as ends
 
 abbrev pub method_from_c : ℕ → Option ProcessingMethod
 method_from_c zero = Some methods.Input
@@ -58,35 +50,6 @@ step_from_c kind number mode =
     else if kind == 1 then Some (step.Run number)
     else if kind == 2 then Some step.Interrupt
     else step_by (control_from_c kind number mode)
-
-abbrev pub end_number : ServedEnd → ℕ
-end_number ends.All = 0
-end_number ends.RowFull = 1
-end_number ends.Commands = 2
-
-abbrev pub kind_number : Kind → ℕ
-kind_number kinds.Disk = 0
-kind_number kinds.Tape = 1
-kind_number kinds.Printer = 2
-
-abbrev pub active_number : ActiveState → ℕ
-active_number actives.Running = 1
-active_number actives.Pending = 2
-active_number actives.AwaitsRestart = 3
-
-abbrev pub dcb_number : DcbState → ℕ
-dcb_number dcbs.Unknown = 0
-dcb_number dcbs.Open = 1
-dcb_number dcbs.Closing = 2
-dcb_number dcbs.Closed = 3
-
-abbrev pub as_bit : Bool → ℕ
-as_bit false = 0
-as_bit true = 1
-
--- a count of 32 bits: any larger one is shown as the largest
-abbrev pub count_of : ℕ → ℕ
-count_of n = min n 4294967295
 
 -- the fault of a device's command with these numbers
 abbrev pub fault_from_c : ℕ → ℕ → ℕ → ℕ → Fault

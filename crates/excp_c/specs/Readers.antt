@@ -4,35 +4,13 @@ use Rattle.tape_unit.specs.Item.{Item as OnTape, content_of}
 use Rattle.ckd_disk.specs.Record.{Record as OnTrack}
 use Rattle.line_printer.specs.Paper.{Line as Printed}
 use Rattle.request_piece.specs.declared.piece.Name.{Name}
-use Rattle.excp_site.specs.Looks.{IsPlace, ItemAt, LineAt, RecordAt, ShowsActive, ShowsDcb, ShowsUnit, WaitsAt, device_now}
+use Rattle.excp_site.specs.Looks.{ItemAt, LineAt, RecordAt, WaitsAt, device_now}
 use Rattle.excp_site.specs.Sites.{HasPart, SiteView, number_of}
-use Rattle.excp_site.specs.declared.state.ActiveLook.{ActiveLook}
-use Rattle.excp_site.specs.declared.state.DcbLook.{DcbLook}
-use Rattle.excp_site.specs.declared.state.Place.{Place as PlaceLook}
-use Rattle.excp_site.specs.declared.state.UnitState.{UnitState as UnitLook}
 use Rattle.excp_c.specs.Buffers.{copied}
 use Rattle.excp_c.specs.Contents.{item_in_c, line_in_c, record_in_c}
-use Rattle.excp_c.specs.Looks.{active_request_of, dcb_state_of, place_in_c, unit_state_of}
 use Rattle.excp_c.specs.declared.contents.Item.{Item}
 use Rattle.excp_c.specs.declared.contents.Line.{Line}
 use Rattle.excp_c.specs.declared.contents.Record.{Record}
-use Rattle.excp_c.specs.declared.looks.ActiveRequest.{ActiveRequest}
-use Rattle.excp_c.specs.declared.looks.DcbState.{DcbState}
-use Rattle.excp_c.specs.declared.looks.Place.{Place}
-use Rattle.excp_c.specs.declared.looks.UnitState.{UnitState}
-
-abbrev pub ShowsSite : SiteView → ℕ → UnitState → Type 0
-ShowsSite s unit state = (look : UnitLook) × HasPart s.plain unit (λ p. ShowsUnit p look) × (state ≡ unit_state_of s unit look)
-
-abbrev pub ShowsActiveAs : SiteView → ℕ → ActiveRequest → Type 0
-ShowsActiveAs s unit shown = (look : ActiveLook) × HasPart s.plain unit (λ p. ShowsActive p look) × (shown ≡ active_request_of s unit look)
-
-abbrev pub ShowsPlace : SiteView → ℕ → Place → Type 0
-ShowsPlace s unit shown =
-    (place : PlaceLook) × HasPart s.plain unit (λ p. IsPlace (device_now p.book) place) × (shown ≡ place_in_c place)
-
-abbrev pub ShowsDcbAs : SiteView → ℕ → ℕ → DcbState → Type 0
-ShowsDcbAs s unit dcb state = (look : DcbLook) × HasPart s.plain unit (λ p. ShowsDcb p dcb look) × (state ≡ dcb_state_of look)
 
 -- the task and the number of the request that waits at a place
 abbrev pub Waits : SiteView → ℕ → ℕ → ℕ → ℕ → Type 0

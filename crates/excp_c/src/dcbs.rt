@@ -8,8 +8,8 @@ ghost use Rattle.excp_c.specs.Calls.{KeepsSite, SameSite, TestsSite};
 ghost use Rattle.excp_c.specs.Numbers.{method_from_c};
 
 use crate::handle::Handle;
-use crate::status::{NO_SITE, OK, status_in_c};
-use excp_site::{Refusal, extents};
+use crate::status::{NO_SITE, give_or_explain, status_in_c};
+use excp_site::{Refusal, RefusedCall, extents};
 use std::alloc::Global;
 use unit_book::ProcessingMethod;
 
@@ -52,18 +52,10 @@ pub extern "C" fn excp_call_open(
     let extents = match extents(alloc, extent_bytes) {
         Ok(extents) => extents,
         Err(refusal) => {
-            site.explain_extent_bytes(refusal, extent_bytes.len());
+            site.explain(refusal, RefusedCall::ExtentBytes(extent_bytes.len()));
             return status_in_c(refusal);
         }
     };
-    match site.open(unit, method, &extents) {
-        Ok(number) => {
-            *dcb = number;
-            OK
-        }
-        Err(refusal) => {
-            site.explain_extents(refusal, unit, &extents);
-            status_in_c(refusal)
-        }
-    }
+    let answered = site.open(unit, method, &extents);
+    give_or_explain(site, answered, RefusedCall::Open(unit, &extents), dcb)
 }

@@ -3,39 +3,19 @@
 ghost use Rattle.std.specs.Prelude.{◌≡◌, ◌≢◌, ◌<◌};
 ghost use Rattle.unit_book.specs.Book.{occupancy};
 ghost use Rattle.excp_site.specs.Refusals.{UnitRefused};
-ghost use Rattle.excp_site.specs.Serving.{HasSettled, ServeRefused, SettleRefused};
+ghost use Rattle.excp_site.specs.Serving.{HasSettled, IsServedFor, ServeRefused, SettleRefused};
 ghost use Rattle.excp_site.specs.Sites.{IssueCallRefused};
 ghost use Rattle.excp_c.specs.Answers.{of_answer, of_delivery, of_intake};
-ghost use Rattle.excp_c.specs.Done.{SiteDelivers, Did, IssuesAs, Made, NumberedRefused, OnlyPlain, Refused, RefusedAs, SiteServes, SiteSettles, SiteSteps, SiteTakes};
+ghost use Rattle.excp_c.specs.Done.{SiteDelivers, Did, IssuesAs, Made, NumberedRefused, OnlyPlain, Refused, RefusedAs, SiteSettles, SiteSteps, SiteTakes};
 ghost use Rattle.excp_c.specs.Calls.{KeepsSite, SameSite, TestsSite};
-ghost use Rattle.excp_c.specs.Numbers.{control_from_c, end_number, mode_from_c, step_from_c};
+ghost use Rattle.excp_c.specs.Numbers.{control_from_c, mode_from_c, step_from_c};
 
 use crate::answer::{Answer, Event};
 use crate::handle::Handle;
-use crate::status::{NO_SITE, OK, done, status_in_c};
-use excp_site::{Refusal, ServedEnd};
+use crate::status::{NO_SITE, OK, done, give, status_in_c};
+use excp_site::{Refusal, RefusedCall, Served};
 use request_piece::Scope;
 use unit_book::{Control, Mode, UnitStep};
-
-/// `excp_served`.
-#[repr(C)]
-#[derive(Clone, Copy)]
-pub struct Served {
-    pub posts: u64,
-    pub commands: u32,
-    pub ended: u32,
-}
-
-/// The number of why a serve ended.
-fn end_number(ended: ServedEnd) -> u32
-    ensures { result ≡ end_number ended }
-{
-    match ended {
-        ServedEnd::All => 0,
-        ServedEnd::RowFull => 1,
-        ServedEnd::Commands => 2,
-    }
-}
 
 /// `excp_issue`.
 #[unsafe(no_mangle)]
@@ -65,7 +45,13 @@ pub extern "C" fn excp_call_issue(
             OK
         }
         Err(refusal) => {
-            site.explain_request(refusal, dcb, iob, base, storage);
+            let call = RefusedCall::Issue {
+                dcb,
+                iob,
+                base,
+                storage,
+            };
+            site.explain(refusal, call);
             status_in_c(refusal)
         }
     }
@@ -194,7 +180,7 @@ pub extern "C" fn excp_call_serve(
 ) -> u32
     ensures site { TestsSite handle.old result }
     ensures keeps { KeepsSite handle.old handle.new }
-    ensures done { result ≡ 0 → Did handle.old handle.new (SiteServes unit max_commands served.new) }
+    ensures done { result ≡ 0 → Did handle.old handle.new (λ s t. IsServedFor s.plain unit max_commands served.new t.plain × OnlyPlain s t) }
     ensures why { result ≢ 0 → result ≢ 3 → Refused handle.old handle.new result (λ s t e. ServeRefused s.plain unit max_commands t.plain e × OnlyPlain s t) }
     ensures none { result ≡ 3 → SameSite handle.old handle.new }
     ensures refused { result ≢ 0 → served.new ≡ served.old }
@@ -202,17 +188,7 @@ pub extern "C" fn excp_call_serve(
     let Some(site) = handle.site() else {
         return NO_SITE;
     };
-    match site.serve(unit, max_commands) {
-        Ok(did) => {
-            *served = Served {
-                posts: did.posts,
-                commands: did.commands,
-                ended: end_number(did.ended),
-            };
-            OK
-        }
-        Err(refusal) => status_in_c(refusal),
-    }
+    give(site.serve(unit, max_commands), served)
 }
 
 /// `excp_settle`.

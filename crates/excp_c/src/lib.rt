@@ -20,11 +20,7 @@ mod status;
 mod texts;
 
 pub use answer::Answer;
-pub use channels::{ChannelRan, ChannelStatus};
 pub use contents::{Item, Line, Record};
 pub use entries::TraceEntry;
-pub use events::Served;
 pub use handle::Handle;
-pub use looks::{ActiveRequest, DcbState, Place, UnitState};
-pub use media::Room;
 pub use posts::Post;

@@ -14,28 +14,11 @@ ghost use Rattle.excp_c.specs.Numbers.{fault_from_c};
 ghost use Rattle.excp_c.specs.Calls.{KeepsSite, SameSite, TestsSite};
 
 use crate::handle::Handle;
-use crate::status::{NO_SITE, OK, done, status_in_c};
+use crate::status::{NO_SITE, OK, done, give_or_explain};
 use ckd_disk::Geometry;
 use device_port::Fault;
+use excp_site::{RefusedCall, Room};
 use io_images::{SubStatus, UnitStatus};
-
-/// `excp_room`.
-#[repr(C)]
-#[derive(Clone, Copy)]
-pub struct Room {
-    pub in_flight: u32,
-    pub held: u32,
-}
-
-/// The room of `excp_room` as a site takes it.
-pub(crate) fn room_of(room: &Room) -> excp_site::Room
-    ensures { result ≡ record { in_flight = room.now.in_flight; held = room.now.held } }
-{
-    excp_site::Room {
-        in_flight: room.in_flight,
-        held: room.held,
-    }
-}
 
 /// `excp_put_record`.
 #[unsafe(no_mangle)]
@@ -156,16 +139,8 @@ pub extern "C" fn excp_call_mount_disk(
         heads,
         track_bytes,
     };
-    match site.mount_disk(geometry, room_of(room)) {
-        Ok(mounted) => {
-            *unit = mounted;
-            OK
-        }
-        Err(refusal) => {
-            site.explain_disk(refusal, geometry);
-            status_in_c(refusal)
-        }
-    }
+    let answered = site.mount_disk(geometry, *room);
+    give_or_explain(site, answered, RefusedCall::Disk(geometry), unit)
 }
 
 /// `excp_mount_tape`.
@@ -186,16 +161,8 @@ pub extern "C" fn excp_call_mount_tape(
     let Some(site) = handle.site() else {
         return NO_SITE;
     };
-    match site.mount_tape(bytes, room_of(room)) {
-        Ok(mounted) => {
-            *unit = mounted;
-            OK
-        }
-        Err(refusal) => {
-            site.explain_tape(refusal, bytes);
-            status_in_c(refusal)
-        }
-    }
+    let answered = site.mount_tape(bytes, *room);
+    give_or_explain(site, answered, RefusedCall::Tape(bytes), unit)
 }
 
 /// `excp_mount_printer`.
@@ -217,16 +184,8 @@ pub extern "C" fn excp_call_mount_printer(
     let Some(site) = handle.site() else {
         return NO_SITE;
     };
-    match site.mount_printer(lines, pages, room_of(room)) {
-        Ok(mounted) => {
-            *unit = mounted;
-            OK
-        }
-        Err(refusal) => {
-            site.explain_printer(refusal, lines, pages);
-            status_in_c(refusal)
-        }
-    }
+    let answered = site.mount_printer(lines, pages, *room);
+    give_or_explain(site, answered, RefusedCall::Printer(lines, pages), unit)
 }
 
 /// `excp_mount_ckd`.
@@ -248,16 +207,8 @@ pub extern "C" fn excp_call_mount_ckd(
     let Some(site) = handle.site() else {
         return NO_SITE;
     };
-    match site.mount_ckd(image, room_of(room)) {
-        Ok(mounted) => {
-            *unit = mounted;
-            OK
-        }
-        Err(refusal) => {
-            site.explain_image(refusal, 0);
-            status_in_c(refusal)
-        }
-    }
+    let answered = site.mount_ckd(image, *room);
+    give_or_explain(site, answered, RefusedCall::Image(0), unit)
 }
 
 /// `excp_mount_aws`.
@@ -280,14 +231,6 @@ pub extern "C" fn excp_call_mount_aws(
     let Some(site) = handle.site() else {
         return NO_SITE;
     };
-    match site.mount_aws(image, bytes, room_of(room)) {
-        Ok(mounted) => {
-            *unit = mounted;
-            OK
-        }
-        Err(refusal) => {
-            site.explain_image(refusal, bytes);
-            status_in_c(refusal)
-        }
-    }
+    let answered = site.mount_aws(image, bytes, *room);
+    give_or_explain(site, answered, RefusedCall::Image(bytes), unit)
 }

@@ -6,11 +6,11 @@ ghost use Rattle.excp_site.specs.Refusals.{PostRefused};
 ghost use Rattle.excp_c.specs.Buffers.{copied};
 ghost use Rattle.excp_c.specs.Done.{SiteCollects, Did, IsFirstPost, Refused, StorageIsLonger};
 ghost use Rattle.excp_c.specs.Calls.{KeepsSite, SameSite, TestsSite};
-ghost use Rattle.excp_c.specs.Looks.{post_of};
+ghost use Rattle.excp_c.specs.Posts.{post_of};
 
 use crate::buffer::copy_to;
 use crate::handle::Handle;
-use crate::status::{NO_SITE, OK, count_of, status_in_c};
+use crate::status::{NO_SITE, OK, status_in_c};
 use excp_site::{Refusal, Site};
 use io_area::Area;
 use request_piece::Posted;
@@ -42,7 +42,7 @@ fn post_of(site: &Site, posted: &Posted) -> Post
         number: site.number(posted.unit(), posted.name()),
         address: csw.address.get(),
         base: posted.area().base(),
-        length: count_of(posted.area().len()),
+        length: u32::try_from(posted.area().len()).unwrap_or(u32::MAX),
         residual: csw.residual,
         sense: posted.sense(),
         unit: posted.unit(),

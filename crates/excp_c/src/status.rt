@@ -1,10 +1,10 @@
 //! The statuses of c/excp.h.
 
 ghost use Rattle.std.specs.Prelude.{◌≡◌, ◌≢◌, IsErr, MatchResult};
-ghost use Rattle.excp_c.specs.Numbers.{count_of};
+ghost use Rattle.excp_site.specs.Reasons.{LeavesReason};
 ghost use Rattle.excp_c.specs.Statuses.{status_in_c};
 
-use excp_site::Refusal;
+use excp_site::{Refusal, RefusedCall, Site};
 
 pub(crate) const OK: u32 = 0;
 
@@ -75,9 +75,25 @@ pub(crate) fn give<T: Drop>(answered: Result<T, Refusal>, out: &mut T) -> u32
     }
 }
 
-/// A count of 32 bits.
-pub(crate) fn count_of(count: usize) -> u32
-    ensures { result ≡ count_of count }
+/// Writes out what was answered, or explains why it was refused. Returns the status.
+pub(crate) fn give_or_explain<T: Drop>(
+    site: &mut Site,
+    answered: Result<T, Refusal>,
+    call: RefusedCall<'_>,
+    out: &mut T,
+) -> u32
+    ensures status { MatchResult answered (λ x. (result ≡ 0) × (out.new ≡ x) × (site.new ≡ site.old)) (λ e. (result ≡ status_in_c e) × (out.new ≡ out.old) × LeavesReason site.old site.new e) }
+    ensures refused { result ≢ 0 → IsErr answered }
+    ensures site { result ≢ 3 }
 {
-    u32::try_from(count).unwrap_or(u32::MAX)
+    match answered {
+        Ok(answer) => {
+            *out = answer;
+            OK
+        }
+        Err(refusal) => {
+            site.explain(refusal, call);
+            status_in_c(refusal)
+        }
+    }
 }

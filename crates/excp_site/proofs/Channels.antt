@@ -43,6 +43,3 @@ on-channel now s xs number own place lent after Does same held within found is l
           (map-set own_of xs number _ ∙ ap (λ l. set l number (Some (record lent { subchannel = after })))
           (sym held ∙ ap (λ (v : SiteView). v.channels) same));
     }
-
-pub some-is : {X : Type 0} (a b : X) → Some a ≡ Some b → a ≡ b
-some-is a b e = cc

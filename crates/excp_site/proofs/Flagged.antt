@@ -6,7 +6,6 @@ use Rattle.any_device.specs.declared.device.AnyDevice.{AnyDevice}
 use Rattle.unit_book.specs.Book.{Book}
 use Rattle.unit_book.specs.Dcbs.{dcb_state, flag, is_closed, is_of, is_open, is_opened}
 use Rattle.unit_book.specs.Trace.{active, opens}
-use Rattle.unit_book.specs.declared.dcb.DcbState.{DcbState}
 use Rattle.unit_book.specs.declared.dcb.DcbState.TheVariants.{Unknown, Open, Closing, Closed}
 use Rattle.unit_book.specs.declared.dcb.ProcessingMethod.{ProcessingMethod}
 use Rattle.unit_book.specs.declared.entry.Entry.{Entry}

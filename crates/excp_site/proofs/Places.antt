@@ -1,5 +1,5 @@
 -- The item that `nth` gives of an iterator whose state is the list of what is left.
-use Rattle.std.proofs.Common.{◌≡◌, ◌∙◌, ◌≤◌, ℕ, List, [], ◌∷◌, ◌++◌, Option, None, Some, ap, append-nil, length, refl, sym}
+use Rattle.std.proofs.Common.{◌≡◌, ◌∙◌, ℕ, List, [], ◌∷◌, ◌++◌, Option, None, Some, ap, append-nil, length, refl, sym}
 use Rattle.std.specs.Prelude.{slice_get}
 use Rattle.std.specs.Iterator.{SkipsThenYields, Yields, YieldsFirst}
 use Rattle.std.proofs.lemmas.Option.{slice_get_past}

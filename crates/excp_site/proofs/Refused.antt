@@ -1,6 +1,7 @@
 -- What follows of a `?` that returned.
 use Rattle.std.proofs.Common.{◌≡◌, ◌==◌, ◌<◌, ◌+◌, length, ℕ, Option, ap, inl, inr, refl, subst, sym}
 use Rattle.std.proofs.lemmas.Bool.{cases_Bool}
+use Rattle.std.proofs.lemmas.Option.{same_Some}
 use Rattle.medium_image.specs.declared.image.Kept.{Kept}
 use Rattle.request_piece.specs.declared.piece.Name.{Name}
 use Rattle.unit_world.specs.Parts.{next_name_from, next_name_of}
@@ -21,7 +22,7 @@ use Rattle.unit_world.specs.Sites.{SiteState, OnPart}
 use Rattle.excp_site.specs.Refusals.{HasNumbersOf, NumbersRefused, StepCallRefused, of_dcb}
 use Rattle.excp_site.specs.Sites.{SiteView}
 use Rattle.excp_site.specs.declared.refusal.Refusal.{Refusal}
-use Rattle.excp_site.specs.declared.refusal.Refusal.TheVariants.{BadNumber, NoDcb, NoMemory, NoTask}
+use Rattle.excp_site.specs.declared.refusal.Refusal.TheVariants.{NoDcb, NoMemory}
 
 pub refuses : {X : Type 0} (r : Result X Refusal) (e : Refusal) (P : Refusal → Type 0) → IsErrAnd r (λ f. f ≡ e) → P e → IfErr r P
 refuses (Ok x) e P h p = tt
@@ -54,9 +55,6 @@ pub no-first : {X : Type 0} (xs : List X) → slice_get xs 0 ≡ None → xs ≡
 no-first [] h = refl
 no-first (x ∷ xs) h = absurd cc
 
-some-is : {X : Type 0} (a b : X) → Some a ≡ Some b → a ≡ b
-some-is a b e = cc
-
 -- the next name of a task is one of this task
 pub next-of-task : (issued : List ℕ) (task : ℕ) (name : Name) → next_name_of issued task ≡ Some name →
     next_name_of issued name.task ≡ Some name
@@ -67,7 +65,7 @@ next-of-task issued task name h = subst (λ t. next_name_of issued t ≡ Some na
     | inl f ↦ let g : None ≡ Some name = rw f at e in absurd cc
     | inr f ↦
         let g : Some (record { task = task; seq = count + 1 }) ≡ Some name = rw f at e in
-        ap (λ (n : Name). n.task) (some-is (record { task = task; seq = count + 1 }) name g)
+        ap (λ (n : Name). n.task) (same_Some (record { task = task; seq = count + 1 }) name g)
   ]
 
 -- what an error leaves

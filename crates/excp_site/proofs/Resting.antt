@@ -1,11 +1,9 @@
 -- A unit at rest.
-use Rattle.std.proofs.Common.{◌≡◌, ◌∙◌, ◌+◌, ◌==◌, ◌<◌, ◌≤◌, ℕ, arith, take, Bool, true, false, Option, None, Some, List, [], ◌∷◌, ◌++◌, length, ap, inl, inr, refl, suc, sym, zero}
-use Rattle.std.specs.Prelude.{IsTrue, MatchOption, ◌↔◌, slice_get}
+use Rattle.std.proofs.Common.{◌≡◌, ◌<◌, ℕ, arith, Bool, true, false, Some, List, [], ◌∷◌, length, refl, suc, zero}
+use Rattle.std.specs.Prelude.{IsTrue, ◌↔◌, slice_get}
 use Rattle.std.specs.Bool.{OnTrue}
-use Rattle.std.proofs.lemmas.Bool.{cases_Bool, eqb-true}
 use Rattle.any_device.specs.declared.device.AnyDevice.{AnyDevice}
-use Rattle.request_piece.specs.declared.piece.Name.{Name}
-use Rattle.unit_world.specs.Parts.{UnitPart, issued_by, next_name_from, next_name_of}
+use Rattle.unit_world.specs.Parts.{UnitPart}
 use Rattle.unit_world.specs.Sites.{SiteState, OnPart}
 
 -- a test that failed, of what holds

@@ -2,6 +2,7 @@
 use Rattle.std.proofs.Common.{◌≡◌, ◌≢◌, ◌⊎◌, ◌∙◌, ◌≤◌, ℕ, Bool, true, false, Option, None, Some, List, [], ◌∷◌, ap, inl, inr, refl, subst, suc, sym, zero}
 use Rattle.std.specs.Prelude.{IsSome, slice_get, slice_set}
 use Rattle.std.proofs.lemmas.Bool.{cases_Bool}
+use Rattle.std.proofs.lemmas.Option.{same_Some}
 use Rattle.any_device.specs.Devices.{any_device}
 use Rattle.any_device.specs.declared.device.AnyDevice.{AnyDevice}
 use Rattle.request_piece.specs.declared.piece.Name.{Name}
@@ -28,9 +29,6 @@ get-set : {X : Type 0} (xs : List X) (i : ℕ) (x y : X) → slice_get xs i ≡ 
 get-set [] i x y h = absurd cc
 get-set (z ∷ zs) zero x y h = refl
 get-set (z ∷ zs) (suc i) x y h = get-set zs i x y h
-
-some-is : {X : Type 0} (a b : X) → Some a ≡ Some b → a ≡ b
-some-is a b e = cc
 
 -- the unit after a step
 at-after : (old : SiteState AnyDevice) (unit : ℕ) (Does : UnitPart AnyDevice → UnitPart AnyDevice → Type 0) (new : SiteState AnyDevice)
@@ -100,7 +98,7 @@ deliver-stays old unit (delivery.Full name) new never h = h.is
 -- the next step begins with what the last one left
 joined : (old mid new : SiteState AnyDevice) (unit : ℕ) (P Q : UnitPart AnyDevice → UnitPart AnyDevice → Type 0) (first : OnUnit old unit P mid)
     → (next : OnUnit mid unit Q new) → next.before ≡ first.after
-joined old mid new unit P Q first next = some-is next.before first.after (sym next.at ∙ at-after old unit P mid first)
+joined old mid new unit P Q first next = same_Some next.before first.after (sym next.at ∙ at-after old unit P mid first)
 
 same-part : (p q : UnitPart AnyDevice) → q ≡ record p { book = q.book } → q.book ≡ p.book → q ≡ p
 same-part p q e same = e ∙ ap (λ (b : Book AnyDevice). record p { book = b }) same
@@ -136,4 +134,4 @@ stands s0 s1 s2 s3 s4 s5 unit max taken started ran interrupted delivered quiet 
     let same = deliver-stays s4 unit delivered s5 quiet.delivers_none d in
     let now : slice_get s5.units unit ≡ Some p =
     ap (λ (x : SiteState AnyDevice). slice_get x.units unit) same ∙ at-after s3 unit Interrupts s4 i ∙ ap Some i_after in
-    λ part at. subst IsStill (some-is p part (sym now ∙ at)) still
+    λ part at. subst IsStill (same_Some p part (sym now ∙ at)) still

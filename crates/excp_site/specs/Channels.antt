@@ -1,6 +1,6 @@
 -- CHANNELS ALONE (profile): each is a subchannel with a device of its own. What the subchannel answers, and what it is then, is that of
 -- crate subchannel.
-use Rattle.std.specs.Prelude.{◌≡◌, ◌≤◌, ◌<◌, ◌⊎◌, ◌^◌, ℕ, Bool, None, Option, Some, List, [], ◌∷◌, ◌++◌, length, option_map, slice_index_or, slice_set}
+use Rattle.std.specs.Prelude.{◌≡◌, ◌≤◌, ◌<◌, ◌⊎◌, ◌^◌, ℕ, None, Option, Some, List, [], ◌∷◌, ◌++◌, length, option_map, slice_index_or, slice_set}
 use Rattle.io_area.specs.AreaFault.{AreaFault}
 use Rattle.io_area.specs.Storage.{Storage}
 use Rattle.io_area.specs.declared.error.AreaError.TheVariants as areas
@@ -13,8 +13,10 @@ use Rattle.subchannel.specs.Subchannel.{Channel, Idle, RunsAs, TakesSeek, after_
 use Rattle.unit_world.specs.Sites.{SiteState, OnPart}
 use Rattle.excp_site.specs.Imaging.{HasNoModel, IsImageOf}
 use Rattle.excp_site.specs.Looks.{device_now}
+use Rattle.excp_site.specs.Numbers.{as_bit}
 use Rattle.excp_site.specs.Sites.{SiteView, beside_of}
-use Rattle.excp_site.specs.declared.channel.ChannelRun.{ChannelRun}
+use Rattle.excp_site.specs.declared.channel.ChannelRan.{ChannelRan}
+use Rattle.excp_site.specs.declared.channel.ChannelStatus.{ChannelStatus}
 use Rattle.excp_site.specs.declared.channel.OwnChannel.{OwnChannel}
 use Rattle.excp_site.specs.declared.refusal.Refusal.{Refusal}
 use Rattle.excp_site.specs.declared.refusal.Refusal.TheVariants.{NoMemory, BadNumber, NoImage, NoUnit, NothingThere, AreaMisaligned, AreaTooLong, AreaPastTop}
@@ -51,10 +53,22 @@ storage_at base bytes = record { base = base; bytes = bytes }
 abbrev pub StartsChannel : ℕ → Seek → ℕ → ℕ → Channel AnyDevice → Channel AnyDevice → Type 0
 StartsChannel start seek mask code old new = (code ≡ ssch_code old.phase) × (new ≡ after_ssch any_device old start seek mask old.phase)
 
+-- what is written out of a stored status: with nothing stored, all is 0 but the condition code
+abbrev pub stored_in_c : ℕ → Option (Csw × ℕ) → ChannelStatus
+stored_in_c code None = record { address = 0; residual = 0; sense = 0; code = code; unit_status = 0; channel_status = 0 }
+stored_in_c code (Some stored) = record {
+  address = stored.0.address;
+  residual = stored.0.residual;
+  sense = stored.1;
+  code = code;
+  unit_status = stored.0.unit.0;
+  channel_status = stored.0.sub.0;
+}
+
 -- TEST SUBCHANNEL, with the condition code and what it stores
-abbrev pub TestsChannel : ℕ → Option (Csw × ℕ) → Channel AnyDevice → Channel AnyDevice → Type 0
-TestsChannel code stored old new =
-    (code ≡ tsch_code old.phase) × (stored ≡ option_map stored_pair (status_of old.phase)) × (new ≡ record old { phase = tested_phase old.phase })
+abbrev pub TestsChannel : ChannelStatus → Channel AnyDevice → Channel AnyDevice → Type 0
+TestsChannel status old new =
+    (status ≡ stored_in_c (tsch_code old.phase) (option_map stored_pair (status_of old.phase))) × (new ≡ record old { phase = tested_phase old.phase })
 
 -- HALT SUBCHANNEL, with the condition code
 abbrev pub HaltsChannel : ℕ → Channel AnyDevice → Channel AnyDevice → Type 0
@@ -66,11 +80,11 @@ commands_of None = 0
 commands_of (Some burst) = burst.commands
 
 -- A RUN of at most `max` commands, on storage that was `m` and is `n`
-pub record RunsChannel (max : ℕ) (run : ChannelRun) (m n : Storage) (old new : Channel AnyDevice) : Type 0 where
+pub record RunsChannel (max : ℕ) (ran : ChannelRan) (m n : Storage) (old new : Channel AnyDevice) : Type 0 where
   pub burst : Option Burst
   pub runs : RunsAs any_device old m max (running_program old.device old.phase m) burst new n
-  pub commands : run.commands ≡ commands_of burst
-  pub pending : run.is_pending ≡ is_pending new.phase
+  pub commands : ran.commands ≡ commands_of burst
+  pub pending : ran.pending ≡ as_bit (is_pending new.phase)
 
 -- a channel with this number, of which this holds
 abbrev pub HasChannel : SiteView → ℕ → (OwnChannel → Type 0) → Type 0

@@ -1,5 +1,5 @@
 -- UNITS FROM IMAGES, and their media as images (profile).
-use Rattle.std.specs.Prelude.{◌≡◌, ◌≤◌, ◌<◌, ◌⊎◌, ℕ, Some, Option, List, [], Ok, Err, length, true, false}
+use Rattle.std.specs.Prelude.{◌≡◌, ◌≢◌, ◌≤◌, ◌<◌, ◌⊎◌, ℕ, Some, Option, List, [], Ok, Err, length, true, false}
 use Rattle.device_port.specs.Faults.{is_script}
 use Rattle.ckd_disk.specs.Volume.{mounted_volume}
 use Rattle.ckd_image.specs.Loading.{FailsImage, IsFault, Loaded}
@@ -58,8 +58,7 @@ LoadRefused Breaks _ = ⊥
 
 -- what a mount leaves that is refused: the rule that the image breaks, in words
 abbrev pub LeavesMade : SiteView → SiteView → Refusal → Type 0
-LeavesMade old new BadImage = new ≡ record old { made = new.made }
-LeavesMade old new _ = new ≡ old
+LeavesMade old new e = (new ≡ record old { made = new.made }) × (e ≢ BadImage → new ≡ old)
 
 -- nothing was put but faults
 abbrev pub CanLoad : SiteView → ℕ → ℕ → Type 0

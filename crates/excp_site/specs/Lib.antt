@@ -1,4 +1,5 @@
 -- The definitions of excp_site: what contracts see of a site, what its calls do, and when they are refused.
+pub mod Numbers
 pub mod Refusals
 pub mod Extents
 pub mod Media

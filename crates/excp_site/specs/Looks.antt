@@ -1,5 +1,5 @@
--- WHAT A SITE TELLS of a unit (profile).
-use Rattle.std.specs.Prelude.{◌≡◌, ◌≢◌, ◌≤◌, ◌<◌, ◌-◌, ◌/◌, ◌%◌, ◌↔◌, Bool, IsTrue, ℕ, None, List, Option, Some, false, length, min, option_map, reverse, slice_get, true}
+-- WHAT A SITE TELLS of a unit, in the numbers of c/excp.h (profile).
+use Rattle.std.specs.Prelude.{◌≡◌, ◌≢◌, ◌≤◌, ◌<◌, ◌-◌, ◌/◌, ◌%◌, ◌↔◌, Bool, ℕ, None, List, Option, Some, false, length, min, option_map, reverse, slice_get, true}
 use Rattle.any_device.specs.Devices.{any_device}
 use Rattle.any_device.specs.declared.device.AnyDevice.{AnyDevice}
 use Rattle.any_device.specs.declared.device.AnyDevice.TheVariants.{Disk, Printer, Tape}
@@ -20,11 +20,13 @@ use Rattle.unit_book.specs.declared.dcb.DcbState.TheVariants.{Unknown}
 use Rattle.unit_book.specs.declared.entry.Entry.{Entry}
 use Rattle.unit_world.specs.Parts.{UnitPart, active_state}
 use Rattle.unit_world.specs.Sites.{SiteState}
-use Rattle.excp_site.specs.Sites.{HasPart}
+use Rattle.unit_world.specs.declared.active.ActiveState.{ActiveState}
+use Rattle.excp_site.specs.Numbers.{active_number, as_bit, count_of, dcb_number, kind_number}
+use Rattle.excp_site.specs.Sites.{HasPart, SiteView, number_of}
 use Rattle.excp_site.specs.declared.refusal.Refusal.{Refusal}
 use Rattle.excp_site.specs.declared.refusal.Refusal.TheVariants.{BadMedium, NoUnit, NoDcb, NothingThere}
-use Rattle.excp_site.specs.declared.state.ActiveLook.{ActiveLook}
-use Rattle.excp_site.specs.declared.state.DcbLook.{DcbLook}
+use Rattle.excp_site.specs.declared.state.ActiveRequest.{ActiveRequest}
+use Rattle.excp_site.specs.declared.state.DcbState.{DcbState}
 use Rattle.excp_site.specs.declared.state.Place.{Place}
 use Rattle.excp_site.specs.declared.state.UnitState.{UnitState}
 
@@ -37,38 +39,58 @@ abbrev pub printed_by : AnyDevice → ℕ
 printed_by (Printer printer) = length printer.printed
 printed_by _ = 0
 
+-- the active request, and what it waits for: its number, its task and the number of its state, or 0
+abbrev pub active_shown : Book AnyDevice → Option (Name × ActiveState)
+active_shown b = option_map (λ name. (name, active_state any_device b)) (active b.trace)
+
+abbrev pub number_active : SiteView → ℕ → Option (Name × ActiveState) → ℕ
+number_active s unit None = 0
+number_active s unit (Some active) = number_of s unit active.0
+
+abbrev pub task_active : Option (Name × ActiveState) → ℕ
+task_active None = 0
+task_active (Some active) = active.0.task
+
+abbrev pub state_active : Option (Name × ActiveState) → ℕ
+state_active None = 0
+state_active (Some active) = active_number active.1
+
 -- A UNIT AS IT IS
-pub record ShowsUnit (p : UnitPart AnyDevice) (u : UnitState) : Type 0 where
-  pub kind : u.kind ≡ any_device.kind (device_now p.book)
-  pub active_is : u.active ≡ option_map (λ name. (name, active_state any_device p.book)) (active p.book.trace)
-  pub in_flight : u.in_flight ≡ length p.flight
-  pub in_flight_room : u.in_flight_room ≡ p.intake_room - length p.flight
-  pub waiting_is : u.waiting ≡ length (waiting p.book.trace)
-  pub out : u.out ≡ length p.book.out
-  pub has_room : IsTrue u.has_room ↔ (occupancy p.book < p.book.capacity)
-  pub printed : u.printed ≡ printed_by (device_now p.book)
+pub record ShowsUnit (s : SiteView) (unit : ℕ) (p : UnitPart AnyDevice) (u : UnitState) : Type 0 where
+  pub kind : u.kind ≡ kind_number (any_device.kind (device_now p.book))
+  pub active_number_is : u.active_number ≡ number_active s unit (active_shown p.book)
+  pub active_task : u.active_task ≡ task_active (active_shown p.book)
+  pub active_is : u.active ≡ state_active (active_shown p.book)
+  pub in_flight : u.in_flight ≡ count_of (length p.flight)
+  pub in_flight_room : u.in_flight_room ≡ count_of (p.intake_room - length p.flight)
+  pub waiting_is : u.waiting ≡ count_of (length (waiting p.book.trace))
+  pub out : u.out ≡ count_of (length p.book.out)
+  pub has_room : (u.has_room ≡ 1) ↔ (occupancy p.book < p.book.capacity)
+  pub has_room_bit : u.has_room ≤ 1
+  pub printed : u.printed ≡ count_of (printed_by (device_now p.book))
 
 abbrev pub LookRefused : SiteState AnyDevice → ℕ → Refusal → Type 0
 LookRefused s unit NoUnit = length s.units ≤ unit
 LookRefused s unit _ = ⊥
 
--- THE ACTIVE REQUEST: its DCB, how often it was started, and its next CCW if its program runs
-abbrev pub next_ccw : ActivityPhase → Option ℕ
-next_ccw (phases.Running place) = Some place.next
-next_ccw (phases.Pending status) = None
-next_ccw (phases.AwaitsRestart status) = None
+-- THE ACTIVE REQUEST: its number, how often it was started, and the address of its next CCW if its program runs, or 0
+abbrev pub next_ccw : ActivityPhase → ℕ
+next_ccw (phases.Running place) = place.next
+next_ccw (phases.Pending status) = 0
+next_ccw (phases.AwaitsRestart status) = 0
 
-abbrev pub active_look : Piece → ℕ → ActivityPhase → ActiveLook
-active_look piece starts phase = record { name = piece.name; dcb = piece.dcb; attempt = starts; next = next_ccw phase }
+abbrev pub active_request : SiteView → ℕ → Piece → ℕ → ActivityPhase → ActiveRequest
+active_request s unit piece starts phase =
+    record { number = number_of s unit piece.name; next = next_ccw phase; attempt = starts; task = piece.name.task; dcb = piece.dcb }
 
-pub record ShowsActive (p : UnitPart AnyDevice) (a : ActiveLook) : Type 0 where
+pub record ShowsActive (s : SiteView) (unit : ℕ) (p : UnitPart AnyDevice) (a : ActiveRequest) : Type 0 where
   pub piece : Piece
   pub starts : ℕ
   pub halted : Bool
   pub covered : Bool
   pub phase : ActivityPhase
   pub is : IsActivity any_device p.book piece starts halted covered phase
-  pub shown : a ≡ active_look piece starts phase
+  pub shown : a ≡ active_request s unit piece starts phase
 
 abbrev pub ActiveRefused : SiteState AnyDevice → ℕ → Refusal → Type 0
 ActiveRefused s unit NoUnit = length s.units ≤ unit
@@ -84,14 +106,15 @@ pub record IsTrackUnder (disk : DiskState) (cylinder head : ℕ) : Type 0 where
 abbrev pub IsPlace : AnyDevice → Place → Type 0
 IsPlace (Disk disk) at =
     IsTrackUnder disk at.cylinder at.head × (at ≡ record { items = 0; passed = 0; cylinder = at.cylinder; head = at.head; page = 0; line = 0 })
-IsPlace (Tape tape) at = at ≡ record { items = length tape.reel.items; passed = tape.place; cylinder = 0; head = 0; page = 0; line = 0 }
+IsPlace (Tape tape) at =
+    at ≡ record { items = count_of (length tape.reel.items); passed = count_of tape.place; cylinder = 0; head = 0; page = 0; line = 0 }
 IsPlace (Printer printer) at = at ≡ record { items = 0; passed = 0; cylinder = 0; head = 0; page = printer.at.page; line = printer.at.line }
 
 -- A DCB AS IT IS
-pub record ShowsDcb (p : UnitPart AnyDevice) (dcb : ℕ) (d : DcbLook) : Type 0 where
-  pub known : d.state ≢ Unknown
-  pub state : d.state ≡ dcb_state dcb p.book.trace
-  pub in_error : d.in_error ≡ flag dcb p.book.trace
+pub record ShowsDcb (p : UnitPart AnyDevice) (dcb : ℕ) (d : DcbState) : Type 0 where
+  pub known : dcb_state dcb p.book.trace ≢ Unknown
+  pub state : d.state ≡ dcb_number (dcb_state dcb p.book.trace)
+  pub in_error : d.in_error ≡ as_bit (flag dcb p.book.trace)
   pub file_mask : d.file_mask ≡ mask_of dcb p.book.trace
 
 abbrev pub DcbLookRefused : SiteState AnyDevice → ℕ → ℕ → Refusal → Type 0

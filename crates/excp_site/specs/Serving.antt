@@ -21,6 +21,7 @@ use Rattle.unit_book.specs.declared.answer.Starting.TheVariants as starting
 use Rattle.unit_world.specs.Parts.{UnitPart, IsFinishedPart, PartTakes}
 use Rattle.unit_world.specs.PostLists.{list_of}
 use Rattle.unit_world.specs.Sites.{SiteState, DeliversAs, IsFirstOut, OnBook, OnPart, OnUnit, SettlesBook}
+use Rattle.excp_site.specs.Numbers.{end_number}
 use Rattle.excp_site.specs.Sites.{HasPart}
 use Rattle.excp_site.specs.declared.refusal.Refusal.{Refusal}
 use Rattle.excp_site.specs.declared.refusal.Refusal.TheVariants.{NoMemory, BadNumber, NoUnit}
@@ -89,7 +90,9 @@ pub record IsServedFor (old : SiteState AnyDevice) (unit max : ℕ) (served : Se
   pub some : 1 ≤ max
   pub serves : Serves old unit served.posts served.commands new
   pub most : served.commands ≤ max
-  pub ends : EndsServe new unit (max - served.commands) served.ended
+  pub end : ServedEnd
+  pub ended_is : served.ended ≡ end_number end
+  pub ends : EndsServe new unit (max - served.commands) end
 
 -- memory ran out in the midst
 pub record StopsServing (old : SiteState AnyDevice) (unit max : ℕ) (new : SiteState AnyDevice) : Type 0 where

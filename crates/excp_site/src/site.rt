@@ -21,6 +21,7 @@ use crate::refusal::Refusal;
 use any_device::AnyDevice;
 pub use media::Room;
 use medium_image::Kept;
+pub use reasons::RefusedCall;
 use request_piece::Name;
 use std::alloc::Global;
 use std::marker::Model;

@@ -34,7 +34,7 @@ use Rattle.unit_world.specs.States.{WorldState, IsWorldState, MakesStep, StepNam
 use Rattle.unit_world.proofs.Moves.{DeliversValue}
 use Rattle.unit_world.proofs.Sites.{eqb-other, fewer, first-own, from-row, less-other, less-own, others-stay, put-other, put-own, same-item}
 use Rattle.unit_world.proofs.Sites.{site-keeps}
-use Rattle.unit_world.proofs.States.{all-same, no-rest, opened-out, state-opening, state-step}
+use Rattle.unit_world.proofs.States.{Each-first, all-same, no-rest, opened-out, state-opening, state-step}
 use Rattle.unit_world.proofs.Steps.{collects, delivers, has-list}
 use Rattle.unit_world.proofs.Steps.{calls, opens as opening}
 
@@ -45,10 +45,6 @@ Each-push P (y ∷ xs) x h p = (h.0, Each-push P xs x h.1 p)
 Each-rest : {X : Type 0} (P : X → Type 0) (xs : List X) → Each P xs → Each P (drop 1 xs)
 Each-rest P [] h = tt
 Each-rest P (x ∷ xs) h = h.1
-
-Each-head : {X : Type 0} (P : X → Type 0) (xs : List X) (x : X) → Each P xs → slice_get xs 0 ≡ Some x → P x
-Each-head P [] x h e = absurd cc
-Each-head P (y ∷ xs) x h e = let i : y ≡ x = cc in subst P i h.0
 
 -- what holds of each list, after a change of one
 after-set : {X : Type 0} (P : X → Type 0) (lists : List (List X)) (at : ℕ) (l : List X) → ((k : ℕ) → Each P (slice_index_or lists k [])) →
@@ -169,7 +165,7 @@ module _ {D : Type 0} (meaning : Meaning D) where
     collected_site = record old { rows = without_value old.rows task }
 
     pub collect-unit : (value : PostedState) → slice_get (list_of old.rows task) 0 ≡ Some value → value.unit < length old.units
-    collect-unit value first = Each-head (λ (v : PostedState). v.unit < length old.units) (list_of old.rows task) value
+    collect-unit value first = Each-first (λ (v : PostedState). v.unit < length old.units) (list_of old.rows task) value
         (site.of_units task) first
 
     others-collect : (value : PostedState) → slice_get (list_of old.rows task) 0 ≡ Some value →

@@ -26,10 +26,6 @@ pub lists-replicate : (n : ℕ) (room : ℕ) → lists_of (replicate n (buffer [
 lists-replicate zero room = refl
 lists-replicate (suc n) room = ap (λ l. [] ∷ l) (lists-replicate n room)
 
-pub Each-replicate : {X : Type 0} (P : X → Type 0) (n : ℕ) (x : X) → P x → Each P (replicate n x)
-Each-replicate P zero x h = tt
-Each-replicate P (suc n) x h = (h, Each-replicate P n x h)
-
 -- what was refused had no room
 pub refused : {A E : Type 0} (r : Result A E) (len capacity room count : ℕ) → (IsOk r ↔ (len < capacity)) → capacity ≡ room → count ≡ len →
     OnErr r (room ≤ count)

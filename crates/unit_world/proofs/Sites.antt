@@ -233,6 +233,23 @@ pub record UnitPlace {D : Type 0} (meaning : Meaning D) : Type 0 where
   pub view_is : view_of items rows ≡ old
   pub site : IsSite meaning (view_of items rows)
 
+abbrev pub unit-called : {D : Type 0} {meaning : Meaning D} (items : List (UnitSide D)) (rows : PostLists) {place unit : ℕ} {side : UnitSide D}
+    {old : SiteState D} → place ≡ unit → unit < length old.units → side ≡ get_or items place side → view_of items rows ≡ old
+    → IsSite meaning (view_of items rows) → UnitPlace meaning
+unit-called items rows {place} {unit} {side} {old} here within is view_is site = record {
+  items = items;
+  rows = rows;
+  place = place;
+  unit = unit;
+  side = side;
+  old = old;
+  here = here;
+  within = within;
+  is = is;
+  view_is = view_is;
+  site = site;
+}
+
 module _ {D : Type 0} (meaning : Meaning D) (k : UnitPlace meaning) where
   -- the state of its world
   abbrev pub world_before : WorldState D

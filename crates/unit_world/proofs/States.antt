@@ -39,10 +39,6 @@ pub either-on : {A E Done Refused Then : Type 0} (r : Result A E) → OnOk r Don
 either-on (Ok a) done refused f g = f done
 either-on (Err e) done refused f g = g refused
 
-pub on-done : {A E Then : Type 0} (r : Result A E) {Done : A → Type 0} → IfOk r Done → ((a : A) → Done a → Then) → OnOk r Then
-on-done (Ok a) done f = f a done
-on-done (Err e) done f = tt
-
 -- what follows of the first item, and of that there is none
 pub on-some-value : {X : Type 0} {T : X → Type 0} (r : Option X) (xs : List X) → r ≡ slice_get xs 0 →
     ((x : X) → slice_get xs 0 ≡ Some x → T x) → IfSome r T

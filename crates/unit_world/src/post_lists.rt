@@ -48,23 +48,6 @@ impl PostLists {
         self.rings.len()
     }
 
-    /// How many posts may be in a row.
-    pub fn room(&self) -> usize
-        ensures { result ≡ self.now.room }
-    {
-        self.room
-    }
-
-    /// How many posts are in the row of a task.
-    pub fn len(&self, task: u16) -> usize
-        ensures { result ≡ length (list_of self.now.lists task) }
-    {
-        match self.rings.get(usize::from(task)) {
-            Some(ring) => ring.len(),
-            None => 0,
-        }
-    }
-
     /// The post in the row of a task at a place.
     pub fn get(&self, task: u16, at: usize) -> Option<&Posted>
         ensures { option_copied result ≡ slice_get (list_of self.now.lists task) at }

@@ -1,6 +1,6 @@
 //! A unit of a site: its book, and what is in flight to it.
 
-ghost use Rattle.std.specs.Prelude.{◌≡◌, ◌<◌, ◌≤◌, ◌↔◌, [], length, option_map, replicate, slice_get, Some, IfErr, IfOk, IsTrue, OnErr, OnOk};
+ghost use Rattle.std.specs.Prelude.{◌≡◌, ◌<◌, ◌≤◌, ◌↔◌, [], length, replicate, Some, IfErr, IfOk, IsTrue, OnErr, OnOk};
 ghost use Rattle.circular_buffer.specs.Buffer.{buffer};
 ghost use Rattle.unit_book.specs.Book.{occupancy};
 ghost use Rattle.unit_book.specs.Legal.{Legal};
@@ -101,9 +101,7 @@ impl<D: Device> UnitSide<D> {
             }
         }
     }
-}
 
-impl<D: Device> UnitSide<D> {
     /// The name of the next request of a task.
     pub fn next_name(&self, task: u16) -> Option<Name>
         ensures { result ≡ next_name_of (unit_part self.now).issued task }
@@ -123,16 +121,6 @@ impl<D: Device> UnitSide<D> {
         ensures { result ≡ issued_by (unit_part self.now).issued task }
     {
         *self.issued.get(usize::from(task)).unwrap_or(&0)
-    }
-
-    /// The name of the request in flight at a place.
-    pub fn flight_name(&self, at: usize) -> Option<Name>
-        ensures { result ≡ option_map (λ r. r.name) (slice_get (unit_part self.now).flight at) }
-    {
-        match self.flight.get(at) {
-            Some(request) => Some(request.name()),
-            None => None,
-        }
     }
 
     /// Whether nothing is in flight or waits, and nothing is active.

@@ -7,13 +7,13 @@ ghost use Rattle.excp_site.specs.Channels.{AddChannelRefused, AddsChannel, Chann
 ghost use Rattle.io_area.specs.Storage.{SamePlace};
 ghost use Rattle.subchannel.specs.Subchannel.{TakesSeek};
 
-use crate::channel::{ChannelRun, OwnChannel, seek_to};
+use crate::channel::{ChannelRan, ChannelStatus, OwnChannel, seek_to, status_stored};
 use crate::refusal::Refusal;
 use crate::site::Site;
 use any_device::AnyDevice;
 use device_port::Device;
 use io_area::Area;
-use io_images::{Address, Csw, Seek};
+use io_images::{Address, Seek};
 use subchannel::Subchannel;
 
 /// Addresses have 24 bits.
@@ -62,7 +62,7 @@ impl Site {
         cylinder: u16,
         head: u16,
         mask: u8,
-    ) -> Result<u8, Refusal>
+    ) -> Result<u32, Refusal>
         ensures ok { IfOk result (λ code. OnChannel self.old channel (StartsChannel start (seek_to cylinder head) mask code) self.new) }
         ensures refused { IfErr result (ChannelStartRefused self.old channel start cylinder head) }
         ensures err { OnErr result (self.new ≡ self.old) }
@@ -73,7 +73,7 @@ impl Site {
             return Err(Refusal::BadNumber);
         }
         match &mut self.channels[channel as usize] {
-            Some(own) => Ok(own.subchannel.ssch(Address::new(start), &seek, mask)),
+            Some(own) => Ok(u32::from(own.subchannel.ssch(Address::new(start), &seek, mask))),
             None => Err(Refusal::NothingThere),
         }
     }
@@ -88,7 +88,7 @@ impl Site {
         max: u32,
         base: u32,
         storage: &mut [u8],
-    ) -> Result<ChannelRun, Refusal>
+    ) -> Result<ChannelRan, Refusal>
         ensures ok { IfOk result (λ run. OnChannel self.old channel
             (RunsChannel max run (storage_at base storage.old) (storage_at base storage.new)) self.new) }
         ensures some { OnOk result (1 ≤ max) }
@@ -112,7 +112,7 @@ impl Site {
     /// Runs the program of a channel on an area.
     ///
     /// Error: `NothingThere` if there is no such channel.
-    fn run_on(&mut self, channel: u32, area: &mut Area, max: u32) -> Result<ChannelRun, Refusal>
+    fn run_on(&mut self, channel: u32, area: &mut Area, max: u32) -> Result<ChannelRan, Refusal>
         requires some { 1 ≤ max }
         requires there { channel < length self.old.channels }
         ensures ok { IfOk result (λ run. OnChannel self.old channel (RunsChannel max run area.old area.new) self.new) }
@@ -129,14 +129,14 @@ impl Site {
     /// TEST SUBCHANNEL: the condition code, and the status with two sense bytes, which is then cleared.
     ///
     /// Error: `NothingThere` if there is no such channel.
-    pub fn test_channel(&mut self, channel: u32) -> Result<(u8, Option<(Csw, u16)>), Refusal>
-        ensures ok { IfOk result (λ tested. OnChannel self.old channel (TestsChannel tested.0 tested.1) self.new) }
+    pub fn test_channel(&mut self, channel: u32) -> Result<ChannelStatus, Refusal>
+        ensures ok { IfOk result (λ status. OnChannel self.old channel (TestsChannel status) self.new) }
         ensures refused { IfErr result (ChannelRefused self.old channel) }
         ensures err { OnErr result (self.new ≡ self.old) }
     {
         self.channel(channel)?;
         match &mut self.channels[channel as usize] {
-            Some(own) => Ok(own.subchannel.tsch()),
+            Some(own) => Ok(tested(&mut own.subchannel)),
             None => Err(Refusal::NothingThere),
         }
     }
@@ -144,14 +144,14 @@ impl Site {
     /// HALT SUBCHANNEL: the condition code.
     ///
     /// Error: `NothingThere` if there is no such channel.
-    pub fn halt_channel(&mut self, channel: u32) -> Result<u8, Refusal>
+    pub fn halt_channel(&mut self, channel: u32) -> Result<u32, Refusal>
         ensures ok { IfOk result (λ code. OnChannel self.old channel (HaltsChannel code) self.new) }
         ensures refused { IfErr result (ChannelRefused self.old channel) }
         ensures err { OnErr result (self.new ≡ self.old) }
     {
         self.channel(channel)?;
         match &mut self.channels[channel as usize] {
-            Some(own) => Ok(own.subchannel.hsch()),
+            Some(own) => Ok(u32::from(own.subchannel.hsch())),
             None => Err(Refusal::NothingThere),
         }
     }
@@ -204,7 +204,7 @@ fn takes(channel: &Subchannel<AnyDevice>, seek: &Seek) -> bool
 }
 
 /// Runs the program of a channel, if one runs.
-fn run_of(channel: &mut Subchannel<AnyDevice>, area: &mut Area, max: u32) -> ChannelRun
+fn run_of(channel: &mut Subchannel<AnyDevice>, area: &mut Area, max: u32) -> ChannelRan
     requires { 1 ≤ max }
     ensures runs { RunsChannel max result area.old area.new channel.old channel.new }
     ensures place { SamePlace area.old area.new }
@@ -213,8 +213,16 @@ fn run_of(channel: &mut Subchannel<AnyDevice>, area: &mut Area, max: u32) -> Cha
         Some(burst) => burst.commands,
         None => 0,
     };
-    ChannelRun {
+    ChannelRan {
         commands,
-        is_pending: channel.pending(),
+        pending: u32::from(channel.pending()),
     }
+}
+
+/// The condition code of a TEST SUBCHANNEL, and the status that it stores, which is then cleared.
+fn tested(channel: &mut Subchannel<AnyDevice>) -> ChannelStatus
+    ensures { TestsChannel result channel.old channel.new }
+{
+    let (code, stored) = channel.tsch();
+    status_stored(code, stored)
 }

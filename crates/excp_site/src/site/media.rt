@@ -16,15 +16,16 @@ use crate::medium::Medium;
 use crate::refusal::Refusal;
 use crate::site::{MOST_UNITS, Site};
 use any_device::AnyDevice;
-use ckd_disk::{Disk, Geometry};
+use ckd_disk::{Disk, Geometry, InitialRecord};
 use device_port::Fault;
 use line_printer::Printer;
 use medium_image::Kept;
-use tape_unit::Tape;
+use tape_unit::{InitialItem, Tape};
 use unit_book::UnitBook;
 
-/// How many requests may be in flight to a unit, and how many its book holds at a time: each 1 to 65,536.
-#[derive(Clone, Copy, PartialEq, Eq, Debug)]
+/// How many requests may be in flight to a unit, and how many its book holds at a time: each 1 to 65,536 (`excp_room`).
+#[repr(C)]
+#[derive(Clone, Copy)]
 pub struct Room {
     pub in_flight: u32,
     pub held: u32,
@@ -57,8 +58,14 @@ impl Site {
         ensures refused { IfErr result (λ e. e ≡ Refusal.NoMemory) }
         ensures err { OnErr result (self.new.medium.records.items ≡ self.old.medium.records.items) }
     {
-        self.medium
-            .put_record(self.alloc, cylinder, head, number, key, content)?;
+        let record = InitialRecord {
+            cylinder,
+            head,
+            number,
+            key: key.to_vec(self.alloc)?,
+            content: content.to_vec(self.alloc)?,
+        };
+        self.medium.records.push(record)?;
         Ok(())
     }
 
@@ -72,7 +79,8 @@ impl Site {
         ensures refused { IfErr result (λ e. e ≡ Refusal.NoMemory) }
         ensures err { OnErr result (self.new.medium.items.items ≡ self.old.medium.items.items) }
     {
-        self.medium.put_block(self.alloc, content)?;
+        let block = InitialItem::Block(content.to_vec(self.alloc)?);
+        self.medium.items.push(block)?;
         Ok(())
     }
 
@@ -86,7 +94,7 @@ impl Site {
         ensures refused { IfErr result (λ e. e ≡ Refusal.NoMemory) }
         ensures err { OnErr result (self.new.medium.items.items ≡ self.old.medium.items.items) }
     {
-        self.medium.put_tape_mark()?;
+        self.medium.items.push(InitialItem::Mark)?;
         Ok(())
     }
 
@@ -100,7 +108,7 @@ impl Site {
         ensures refused { IfErr result (λ e. e ≡ Refusal.NoMemory) }
         ensures err { OnErr result (self.new.medium.faults.items ≡ self.old.medium.faults.items) }
     {
-        self.medium.put_fault(fault)?;
+        self.medium.faults.push(fault)?;
         Ok(())
     }
 

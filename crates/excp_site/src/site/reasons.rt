@@ -1,6 +1,6 @@
 //! Why a call was refused, kept in words as the bytes that were made last.
 //!
-//! Each of these is called after the call that it explains, with the same values. If memory runs out, no bytes are kept.
+//! `explain` is called after the call that it explains, with the same values. If memory runs out, no bytes are kept.
 
 ghost use Rattle.std.specs.Prelude.{◌≡◌};
 ghost use Rattle.excp_site.specs.Reasons.{LeavesReason, LeavesText};
@@ -19,92 +19,60 @@ use std::io::Write;
 use tape_unit::{LONGEST_REEL, overrun_of};
 use unit_book::extents_refusal;
 
-impl Site {
-    /// Explains why `mount_disk` was refused.
-    pub fn explain_disk(&mut self, refusal: Refusal, geometry: Geometry)
-        ensures { LeavesReason self.old self.new refusal }
-    {
-        let reason = match refusal {
-            Refusal::BadGeometry => of_geometry(geometry),
-            Refusal::BadMedium => self.disk_reason(geometry),
-            _ => return,
-        };
-        self.keep(reason);
-    }
-
-    /// Explains why `mount_tape` was refused.
-    pub fn explain_tape(&mut self, refusal: Refusal, bytes: u64)
-        ensures { LeavesReason self.old self.new refusal }
-    {
-        let reason = match refusal {
-            Refusal::BadGeometry => Some(Reason::TapeBytes(bytes)),
-            Refusal::BadMedium => self.tape_reason(bytes),
-            _ => return,
-        };
-        self.keep(reason);
-    }
-
-    /// Explains why `mount_printer` was refused.
-    pub fn explain_printer(&mut self, refusal: Refusal, lines: u64, pages: u64)
-        ensures { LeavesReason self.old self.new refusal }
-    {
-        let reason = match refusal {
-            Refusal::BadGeometry => of_paper(lines, pages),
-            Refusal::BadMedium => self.pieces_reason(),
-            _ => return,
-        };
-        self.keep(reason);
-    }
-
-    /// Explains why `mount_ckd` was refused, or `mount_aws` with this size, but for the rule that an image breaks.
-    pub fn explain_image(&mut self, refusal: Refusal, size: u64)
-        ensures { LeavesReason self.old self.new refusal }
-    {
-        let reason = match refusal {
-            Refusal::BadGeometry if size > LONGEST_REEL => Some(Reason::ReelBytes(size)),
-            Refusal::BadMedium => self.pieces_reason(),
-            _ => return,
-        };
-        self.keep(reason);
-    }
-
-    /// Explains why `open` was refused with these extents.
-    pub fn explain_extents(&mut self, refusal: Refusal, unit: u16, extents: &[Extent])
-        ensures { LeavesReason self.old self.new refusal }
-    {
-        if refusal == Refusal::BadExtent {
-            let reason = self.extents_reason(unit, extents);
-            self.keep(reason);
-        }
-    }
-
-    /// Explains why bytes of this length are no extents.
-    pub fn explain_extent_bytes(&mut self, refusal: Refusal, len: usize)
-        ensures { LeavesReason self.old self.new refusal }
-    {
-        if refusal == Refusal::BadExtent {
-            self.keep(Some(Reason::ExtentBytes(len)));
-        }
-    }
-
-    /// Explains why `issue` was refused.
-    pub fn explain_request(
-        &mut self,
-        refusal: Refusal,
+/// A call that was refused, with the values that say why.
+#[derive(Clone, Copy)]
+pub enum RefusedCall<'a> {
+    /// `mount_disk` with this size.
+    Disk(Geometry),
+    /// `mount_tape` with this number of bytes.
+    Tape(u64),
+    /// `mount_printer` with these numbers of lines and pages.
+    Printer(u64, u64),
+    /// `mount_ckd`, or `mount_aws` with this size. The rule that an image breaks was kept by the call.
+    Image(u64),
+    /// `extents` of this number of bytes.
+    ExtentBytes(usize),
+    /// `open` of a unit with these extents.
+    Open(u16, &'a [Extent]),
+    /// `issue` for a DCB, with an IOB at an address of storage at a base.
+    Issue {
         dcb: u16,
         iob: u32,
         base: u32,
-        storage: &[u8],
-    )
+        storage: &'a [u8],
+    },
+}
+
+impl Site {
+    /// Explains why a call was refused.
+    pub fn explain(&mut self, refusal: Refusal, call: RefusedCall<'_>)
         ensures { LeavesReason self.old self.new refusal }
     {
         let reason = match refusal {
-            Refusal::AreaMisaligned => Some(Reason::Base(base)),
-            Refusal::AreaTooLong => Some(Reason::StorageBytes(storage.len())),
-            Refusal::AreaPastTop => Some(Reason::StorageEnd(base)),
-            Refusal::BadIob | Refusal::BadEcb | Refusal::BadProgram | Refusal::WrongDcb => {
-                self.request_reason(dcb, iob, base, storage)
-            }
+            Refusal::BadGeometry => match call {
+                RefusedCall::Disk(geometry) => of_geometry(geometry),
+                RefusedCall::Tape(bytes) => Some(Reason::TapeBytes(bytes)),
+                RefusedCall::Printer(lines, pages) => of_paper(lines, pages),
+                RefusedCall::Image(size) if size > LONGEST_REEL => Some(Reason::ReelBytes(size)),
+                _ => return,
+            },
+            Refusal::BadMedium => match call {
+                RefusedCall::Disk(geometry) => self.disk_reason(geometry),
+                RefusedCall::Tape(bytes) => self.tape_reason(bytes),
+                _ => self.pieces_reason(),
+            },
+            Refusal::BadExtent => match call {
+                RefusedCall::ExtentBytes(len) => Some(Reason::ExtentBytes(len)),
+                RefusedCall::Open(unit, extents) => self.extents_reason(unit, extents),
+                _ => return,
+            },
+            Refusal::AreaMisaligned
+            | Refusal::AreaTooLong
+            | Refusal::AreaPastTop
+            | Refusal::BadIob
+            | Refusal::BadEcb
+            | Refusal::BadProgram
+            | Refusal::WrongDcb => self.request_reason(refusal, call),
             _ => return,
         };
         self.keep(reason);
@@ -168,13 +136,29 @@ impl Site {
         Some(of_extents(refusal, extents.len(), cylinders, heads))
     }
 
-    /// Why storage holds no request.
-    fn request_reason(&self, dcb: u16, iob: u32, base: u32, storage: &[u8]) -> Option<Reason> {
-        let Ok(area) = Area::new(self.alloc, base, storage) else {
+    /// Why a request was not issued.
+    fn request_reason(&self, refusal: Refusal, call: RefusedCall<'_>) -> Option<Reason> {
+        let RefusedCall::Issue {
+            dcb,
+            iob,
+            base,
+            storage,
+        } = call
+        else {
             return None;
         };
-        let refusal = Request::refusal(dcb, iob, &area)?;
-        Some(of_request(refusal, dcb, iob, base))
+        match refusal {
+            Refusal::AreaMisaligned => Some(Reason::Base(base)),
+            Refusal::AreaTooLong => Some(Reason::StorageBytes(storage.len())),
+            Refusal::AreaPastTop => Some(Reason::StorageEnd(base)),
+            _ => {
+                let Ok(area) = Area::new(self.alloc, base, storage) else {
+                    return None;
+                };
+                let refusal = Request::refusal(dcb, iob, &area)?;
+                Some(of_request(refusal, dcb, iob, base))
+            }
+        }
     }
 
     /// Keeps a reason, in words, as what was made last. Without one, or without memory, nothing is made.

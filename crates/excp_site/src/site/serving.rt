@@ -8,7 +8,7 @@ ghost use Rattle.unit_world.specs.Sites.{OnBook, OnPart};
 ghost use Rattle.excp_site.specs.Serving.{EndsServe, HasSettled, IsQuiet, IsServedFor, IsStill, OnDelivery, ServeRefused, Serves, SettleRefused, StopsServing, commands_done, changed_nothing, posts_sent};
 
 use crate::refusal::Refusal;
-use crate::served::{Served, ServedEnd};
+use crate::served::{Served, ServedEnd, end_number};
 use crate::site::Site;
 use any_device::AnyDevice;
 use std::alloc::AllocError;
@@ -49,7 +49,7 @@ impl Site {
                 return Ok(Served {
                     posts,
                     commands: max - left,
-                    ended,
+                    ended: end_number(ended),
                 });
             }
         }

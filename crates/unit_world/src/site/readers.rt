@@ -74,29 +74,6 @@ impl<D: Device> PlainSite<D> {
         side.flight.capacity()
     }
 
-    /// The name of the request in flight to a unit at a place, counted from 0 in the order of sending.
-    pub fn flight_name(&self, unit: u16, at: usize) -> Option<Name>
-        requires unit { unit < length self.now.units }
-        ensures { OnPart self.now unit (λ p. result ≡ option_map (λ r. r.name) (slice_get p.flight at)) }
-    {
-        let side = &self.units[usize::from(unit)];
-        side.flight_name(at)
-    }
-
-    /// How many posts are in the row of a task.
-    pub fn post_len(&self, task: u16) -> usize
-        ensures { result ≡ length (list_of self.now.rows task) }
-    {
-        self.rows.len(task)
-    }
-
-    /// How many posts may be in the row of a task.
-    pub fn post_room(&self) -> usize
-        ensures { result ≡ self.now.post_room }
-    {
-        self.rows.room()
-    }
-
     /// The post in the row of a task at a place, counted from 0 in the order of delivery.
     pub fn post(&self, task: u16, at: usize) -> Option<&Posted>
         ensures { option_copied result ≡ slice_get (list_of self.now.rows task) at }

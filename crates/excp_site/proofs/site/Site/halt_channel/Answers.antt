@@ -1,4 +1,4 @@
-use Rattle.std.proofs.Common.{refl}
+use Rattle.std.proofs.Common.{◌∙◌, refl}
 use Rattle.excp_site.specs.Channels.{HaltsChannel}
 use Rattle.excp_site.proofs.Channels.{on-channel}
 use Rattle.excp_site.proofs.site.Site.halt_channel.Goals.{in-Some, in-None}
@@ -9,7 +9,7 @@ returns-clause-ok c = elim c.match-index_mut.branch [
   | in-Some w ↦
       rw (w.result-is, w.self-inside-is)
       (on-channel _ c.args.self.now c.self.inside.channels.items c.args.channel w.in-Some.own c.index_mut.result.now w.deref_mut.result.now
-      w.hsch.new.self (HaltsChannel w.hsch.result) c.self.view_is refl c.in_ok-channel.ensures.there c.index_mut.ensures.value w.in-Some.is
-      w.deref_mut.ensures.value (w.hsch.ensures.code, w.hsch.ensures.state))
+      w.hsch.new.self (HaltsChannel w.from.result) c.self.view_is refl c.in_ok-channel.ensures.there c.index_mut.ensures.value w.in-Some.is
+      w.deref_mut.ensures.value (w.from.ensures ∙ w.hsch.ensures.code, w.hsch.ensures.state))
   | in-None w ↦ rw w.result-is tt
 ]

@@ -51,6 +51,8 @@ returns-in-Some-clause-ok c =
       serves = turned s c.loop.self.plain new unit max c.loop.left c.loop.posts c.posts_sent-posts.result turn.commands turn.delivery i.most
           c.in_ok-turn.ensures.most c.posts_sent-posts.ensures.value i.serves did;
       most = omega arith;
+      end = c.in-Some.ended;
+      ended_is = c.end_number.ensures;
       ends = subst (λ (n : ℕ). EndsServe new unit n c.in-Some.ended) left_is c.in-Some.ensures.why;
     }
 

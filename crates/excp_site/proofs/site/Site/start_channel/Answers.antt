@@ -1,4 +1,4 @@
-use Rattle.std.proofs.Common.{◌≡◌, ℕ, refl, subst}
+use Rattle.std.proofs.Common.{◌≡◌, ◌∙◌, ℕ, refl, subst}
 use Rattle.io_images.specs.declared.seek.Seek.{Seek}
 use Rattle.any_device.specs.Devices.{any_device}
 use Rattle.subchannel.specs.Subchannel.{after_ssch}
@@ -16,7 +16,7 @@ returns-clause-ok c = elim c.match-index_mut.branch [
       (subst (λ (start : ℕ). After start c.seek_to-seek.result) w.new.ensures w.ssch.ensures.state) in
       rw (w.result-is, w.self-inside-is)
       (on-channel _ c.args.self.now c.self.inside.channels.items c.args.channel w.in-Some.own c.index_mut.result.now w.deref_mut.result.now
-      w.ssch.new.self (StartsChannel c.args.start (seek_to c.args.cylinder c.args.head) c.args.mask w.ssch.result) c.self.view_is refl
-      c.in_ok-own.ensures.there c.index_mut.ensures.value w.in-Some.is w.deref_mut.ensures.value (w.ssch.ensures.code, state))
+      w.ssch.new.self (StartsChannel c.args.start (seek_to c.args.cylinder c.args.head) c.args.mask w.from.result) c.self.view_is refl
+      c.in_ok-own.ensures.there c.index_mut.ensures.value w.in-Some.is w.deref_mut.ensures.value (w.from.ensures ∙ w.ssch.ensures.code, state))
   | in-None w ↦ rw w.result-is tt
 ]

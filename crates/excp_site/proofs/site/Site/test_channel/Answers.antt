@@ -9,8 +9,7 @@ returns-clause-ok c = elim c.match-index_mut.branch [
   | in-Some w ↦
       rw (w.result-is, w.self-inside-is)
       (on-channel _ c.args.self.now c.self.inside.channels.items c.args.channel w.in-Some.own c.index_mut.result.now w.deref_mut.result.now
-      w.tsch.new.self (TestsChannel w.tsch.result.0 w.tsch.result.1) c.self.view_is refl c.in_ok-channel.ensures.there
-      c.index_mut.ensures.value w.in-Some.is w.deref_mut.ensures.value
-      (w.tsch.ensures.code, w.tsch.ensures.status, w.tsch.ensures.state))
+      w.tested.new.channel (TestsChannel w.tested.result) c.self.view_is refl c.in_ok-channel.ensures.there c.index_mut.ensures.value
+      w.in-Some.is w.deref_mut.ensures.value w.tested.ensures)
   | in-None w ↦ rw w.result-is tt
 ]

@@ -1,24 +1,14 @@
 use Rattle.unit_world.proofs.Sends.{SendCall, for-rows, sends-answer, sends-keeps}
-use Rattle.unit_world.proofs.Sites.{UnitPlace}
+use Rattle.unit_world.proofs.Sites.{UnitPlace, unit-called}
 use Rattle.unit_world.proofs.site.PlainSite.deliver.Given.{Over}
 use Rattle.unit_world.proofs.site.PlainSite.deliver.Goals.{After-holds, After-send_back}
 use Rattle.unit_world.proofs.site.PlainSite.deliver.Goals as goal
 
 -- the unit that is called
 abbrev called : (g : Over) (c : After-holds g) → UnitPlace g.D.Device.meaning
-called g c = record {
-  items = c.self.inside.units.items;
-  rows = c.self.inside.rows;
-  place = c.from.result;
-  unit = c.args.unit;
-  side = c.index_mut-side.result.now;
-  old = c.args.self.now;
-  here = c.from.ensures;
-  within = c.requires.unit;
-  is = c.index_mut-side.ensures.value;
-  view_is = c.self.view_is;
-  site = c.self.invariant;
-}
+called g c =
+    unit-called c.self.inside.units.items c.self.inside.rows c.from.ensures c.requires.unit c.index_mut-side.ensures.value c.self.view_is
+    c.self.invariant
 
 -- and what it delivers
 abbrev sent : (g : Over) (c : After-send_back g) → SendCall g.D.Device.meaning

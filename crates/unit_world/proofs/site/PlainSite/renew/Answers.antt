@@ -1,29 +1,19 @@
-use Rattle.std.proofs.Common.{◌≡◌, ◌∙◌, ap, length, sym, subst}
+use Rattle.std.proofs.Common.{◌∙◌, ap, length, sym, subst}
 use Rattle.std.proofs.lemmas.List.{length-map}
 use Rattle.unit_world.specs.Parts.{RenewsPart, opening_part, unit_part}
 use Rattle.unit_world.specs.Sites.{from_unit, world_at}
 use Rattle.unit_world.specs.States.{IsWorldState}
 use Rattle.unit_world.proofs.Renewals.{renewed-unit}
-use Rattle.unit_world.proofs.Sites.{UnitPlace, does, keeps, part-at, world-before}
+use Rattle.unit_world.proofs.Sites.{UnitPlace, does, keeps, part-at, unit-called, world-before}
 use Rattle.unit_world.proofs.site.PlainSite.renew.Given.{Over}
 use Rattle.unit_world.proofs.site.PlainSite.renew.Goals.{After-index_mut-side}
 use Rattle.unit_world.proofs.site.PlainSite.renew.Goals as goal
 
 -- the unit that is called
 abbrev called : (g : Over) (c : After-index_mut-side g) → UnitPlace g.D.Device.meaning
-called g c = record {
-  items = c.self.inside.units.items;
-  rows = c.self.inside.rows;
-  place = c.from.result;
-  unit = c.args.unit;
-  side = c.index_mut-side.result.now;
-  old = c.args.self.now;
-  here = c.from.ensures;
-  within = c.requires.unit;
-  is = c.index_mut-side.ensures.value;
-  view_is = c.self.view_is;
-  site = c.self.invariant;
-}
+called g c =
+    unit-called c.self.inside.units.items c.self.inside.rows c.from.ensures c.requires.unit c.index_mut-side.ensures.value c.self.view_is
+    c.self.invariant
 
 pub renew-requires-clause-finished : goal.renew-requires-clause-finished
 renew-requires-clause-finished g c =

@@ -1,7 +1,7 @@
 use Rattle.unit_book.specs.Refusals.{SettleLacks}
 use Rattle.unit_book.specs.Settle.{IsIdle}
 use Rattle.unit_world.specs.Sites.{SettlesBook}
-use Rattle.unit_world.proofs.Sites.{UnitPlace, book-does, book-now, book-now-err, book-settles, two-done, world_before}
+use Rattle.unit_world.proofs.Sites.{UnitPlace, book-does, book-now, book-now-err, book-settles, two-done, unit-called, world_before}
 use Rattle.unit_world.proofs.Steps.{settles}
 use Rattle.unit_world.proofs.site.PlainSite.settle.Given.{Over}
 use Rattle.unit_world.proofs.site.PlainSite.settle.Goals.{After-settle}
@@ -9,31 +9,18 @@ use Rattle.unit_world.proofs.site.PlainSite.settle.Goals as goal
 
 -- the unit that is called
 abbrev called : (g : Over) (c : After-settle g) → UnitPlace g.D.Device.meaning
-called g c = record {
-  items = c.self.inside.units.items;
-  rows = c.self.inside.rows;
-  place = c.from.result;
-  unit = c.args.unit;
-  side = c.index_mut-side.result.now;
-  old = c.args.self.now;
-  here = c.from.ensures;
-  within = c.requires.unit;
-  is = c.index_mut-side.ensures.value;
-  view_is = c.self.view_is;
-  site = c.self.invariant;
-}
+called g c =
+    unit-called c.self.inside.units.items c.self.inside.rows c.from.ensures c.requires.unit c.index_mut-side.ensures.value c.self.view_is
+    c.self.invariant
 
 pub invariant_of-self : goal.invariant_of-self
 invariant_of-self g c =
-    let m = g.D.Device.meaning in
     let k = called g (goal.at.invariant_of-self g c).After-settle in
-    book-settles m k c.settle.new.self (settles m (world_before m k) c.settle.new.self c.settle.ensures.steps)
+    book-settles _ k c.settle.new.self (settles g.D.Device.meaning (world_before _ k) c.settle.new.self c.settle.ensures.steps)
 
 pub returns-clause-settles : goal.returns-clause-settles
 returns-clause-settles g c =
-    let m = g.D.Device.meaning in
-    let k = called g (goal.at.returns-clause-settles g c).After-settle in
-    book-does m k c.settle.new.self (SettlesBook m) (record {
+    book-does _ (called g (goal.at.returns-clause-settles g c).After-settle) c.settle.new.self (SettlesBook g.D.Device.meaning) (record {
       settles = c.settle.ensures.steps;
       adds = c.settle.ensures.adds;
       mounted = c.settle.ensures.mounted;
@@ -43,13 +30,10 @@ returns-clause-settles g c =
 
 pub returns-clause-idle : goal.returns-clause-idle
 returns-clause-idle g c =
-    let m = g.D.Device.meaning in
-    let k = called g (goal.at.returns-clause-idle g c).After-settle in
-    book-now m k c.settle.new.self c.settle.result (λ b. IsIdle b.trace)
+    book-now _ (called g (goal.at.returns-clause-idle g c).After-settle) c.settle.new.self c.settle.result (λ b. IsIdle b.trace)
     (two-done c.settle.result (λ w a. record { none_waits = w; none_active = a }) c.settle.ensures.waiting c.settle.ensures.active)
 
 pub returns-clause-full : goal.returns-clause-full
 returns-clause-full g c =
-    let m = g.D.Device.meaning in
-    let k = called g (goal.at.returns-clause-full g c).After-settle in
-    book-now-err m k c.settle.new.self c.settle.result (SettleLacks m) c.settle.ensures.full
+    book-now-err _ (called g (goal.at.returns-clause-full g c).After-settle) c.settle.new.self c.settle.result
+    (SettleLacks g.D.Device.meaning) c.settle.ensures.full
