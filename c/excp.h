@@ -52,7 +52,7 @@ typedef enum excp_status {
     EXCP_BAD_NUMBER = 5,     /* a number is outside its range: a mode, a method, a room, a count of tasks or commands */
     EXCP_NO_UNIT = 6,
     EXCP_NO_TASK = 7,
-    EXCP_NO_DCB = 8,         /* no such DCB was opened; for a reset, none is open */
+    EXCP_NO_DCB = 8,         /* no such DCB was opened; for a reset, it is not open */
     EXCP_TOO_MANY_UNITS = 9, /* a site has at most 65,535 units */
     EXCP_TOO_MANY_DCBS = 10, /* a unit has at most 65,535 DCBs */
     EXCP_BAD_GEOMETRY = 11,  /* the size of a disk, a tape or a printer */
@@ -68,11 +68,12 @@ typedef enum excp_status {
     EXCP_BAD_PROGRAM = 21,   /* the channel program is not on a doubleword in the storage */
     EXCP_WRONG_DCB = 22,     /* the IOB names another DCB than the call */
     EXCP_FULL = 23,          /* as many requests are in flight to the unit as may be */
-    EXCP_NO_NUMBER = 24,     /* the task used its last number at the unit, 4,294,967,295: checkpoint the unit */
+    EXCP_NO_NUMBER = 24,     /* the task issued 4,294,967,295 requests to the unit since its checkpoint: make another */
     EXCP_NO_POST = 25,       /* no post was delivered to the task that it has not collected */
     EXCP_NO_ROOM = 26,       /* the caller's buffer is too short; excp_copy_out: it is too long */
     EXCP_NOTHING_THERE = 27, /* no request, entry, record, item, line or channel is at that place, or no request is active */
-    EXCP_NOT_IDLE = 28,      /* excp_checkpoint: a request is in flight, waits, is active or out, or a post is not collected */
+    EXCP_NOT_IDLE = 28,      /* excp_checkpoint: a request is in flight, waits, is active or out, or a post is not collected, which
+                                excp_look does not show */
     EXCP_IN_ERROR = 29       /* excp_checkpoint: an open DCB is in error */
 } excp_status;
 
@@ -199,8 +200,8 @@ typedef struct excp_served {
                           first. EXCP_SERVED_COMMANDS: `max_commands` were done. */
 } excp_served;
 
-/* Takes, starts, runs, interrupts and delivers, until nothing is left to do or `max_commands` commands were done. If it returns
- * EXCP_NO_MEMORY, what was done stays done. */
+/* Takes, starts, runs, interrupts and delivers, until nothing is left to do or `max_commands` commands were done, at least 1. If it
+ * returns EXCP_NO_MEMORY, what was done stays done. */
 excp_status excp_serve(excp_site *site, uint16_t unit, uint32_t max_commands, excp_served *served);
 
 /* Starts, runs and interrupts until nothing waits or is active. If it returns EXCP_NO_MEMORY, what was done stays done. */
@@ -375,8 +376,9 @@ excp_status excp_printed_line(excp_site *site, uint16_t unit, uint32_t place, ex
  * excp_copy_out copies `length` of them, from the place `from` on (EXCP_NO_ROOM: there are not so many). */
 
 /* What happened at a unit since it was mounted, or since its last checkpoint, and its medium, as lines of JSON (docs/REPORT.md): an
- * object for each entry, and for each of its first `most_steps` commands, and no NUL. Requests have the numbers that they have there,
- * from 1 on. A command that met a fault of the unit has no number of that; `bytes`, `lines` and `pages` of the medium are null. */
+ * object for each entry, and for each of its first `most_steps` commands, and no NUL. Requests have numbers from 1 on,
+ * counted since then. A command that met a fault of the unit has no number of that; `bytes`, `lines` and `pages` of the medium are
+ * null. */
 excp_status excp_make_record(excp_site *site, uint16_t unit, uint64_t most_steps, size_t *length);
 
 /* The medium of a unit as an image: a disk as CKD_P370, a tape as AWSTAPE, the paper of a printer as text in UTF-8
@@ -440,8 +442,8 @@ excp_status excp_channel_halt(excp_site *site, uint32_t channel, uint32_t *code)
 /* ---- Long use -------------------------------------------------------------------------------------------------------- */
 
 /* Forgets what happened at an idle unit, so that its memory does not grow with each request. The device, its medium, its image and
- * the DCBs stay as they are, but for the error flag of a closed one. Numbers of requests go on. It takes memory for a number for
- * each task alone. EXCP_NOT_IDLE and EXCP_IN_ERROR say what has to be done first. */
+ * the DCBs stay as they are, but for the error flag of a closed one. Numbers of requests go on. It takes memory for one number for
+ * each task. EXCP_NOT_IDLE and EXCP_IN_ERROR say what has to be done first. */
 excp_status excp_checkpoint(excp_site *site, uint16_t unit);
 
 #ifdef __cplusplus

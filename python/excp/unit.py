@@ -144,7 +144,7 @@ class Unit:
     @property
     def is_drained(self) -> bool:
         """Whether no request is in flight to the unit, waits, is active, or is posted and not
-        delivered."""
+        delivered. It does not look whether the posts were collected."""
         found = self.look()
         return not (found.in_flight or found.waiting or found.active or found.out)
 
@@ -227,7 +227,7 @@ class Unit:
     def record(self, most_steps: int = 0) -> str:
         """What happened at the unit since it was mounted, or since its last checkpoint, and its
         medium: a line of JSON for each entry, and for each of its first commands, if that many are
-        wanted (docs/REPORT.md). Requests have the numbers that they have there, from 1 on."""
+        wanted (docs/REPORT.md). Requests have numbers from 1 on, counted since then."""
         return self._calls.make("make_record", self.number, most_steps).decode("ascii")
 
     def history(self, most_steps: int = 0) -> str:
