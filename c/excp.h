@@ -376,9 +376,8 @@ excp_status excp_printed_line(excp_site *site, uint16_t unit, uint32_t place, ex
  * excp_copy_out copies `length` of them, from the place `from` on (EXCP_NO_ROOM: there are not so many). */
 
 /* What happened at a unit since it was mounted, or since its last checkpoint, and its medium, as lines of JSON (docs/REPORT.md): an
- * object for each entry, and for each of its first `most_steps` commands, and no NUL. Requests have numbers from 1 on,
- * counted since then. A command that met a fault of the unit has no number of that; `bytes`, `lines` and `pages` of the medium are
- * null. */
+ * object for each entry, and for each of its first `most_steps` commands, and no NUL. Requests of a task count from 1 since then. A
+ * command that met a fault of the unit has no number of that; `bytes`, `lines` and `pages` of the medium are null. */
 excp_status excp_make_record(excp_site *site, uint16_t unit, uint64_t most_steps, size_t *length);
 
 /* The medium of a unit as an image: a disk as CKD_P370, a tape as AWSTAPE, the paper of a printer as text in UTF-8

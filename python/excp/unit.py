@@ -4,11 +4,12 @@ from __future__ import annotations
 
 import ctypes
 import itertools
-from typing import TYPE_CHECKING, Any, Iterator, List, Optional, Sequence, Tuple, Union
+from typing import TYPE_CHECKING, Any, Dict, Iterator, List, Optional, Sequence, Tuple, Union
 
 from . import library
 from .blocks import Csw, Extent, code_of
 from .errors import BadMedium, NothingThere, Status
+from .reporting.record import renumbered
 from .reporting.text import unit_history
 from .values import (
     TAPE_MARK, Active, ActiveRequest, Answer, DcbPhase, DcbState, Device, Entry, EntryKind, Line,
@@ -30,7 +31,7 @@ class Unit:
 
     def __init__(self, site: Site, number: int) -> None:
         self.site, self.number = site, number
-        self._calls = site.calls
+        self._calls, self._has_checkpoint = site.calls, False
 
     def __repr__(self) -> str:
         return f"<unit {self.number}>"
@@ -89,6 +90,7 @@ class Unit:
         """Forgets what happened at this idle unit, so that its memory does not grow with each
         request. Raises NotIdle, or InError if an open DCB is in error."""
         self._calls.call("checkpoint", self.number)
+        self._has_checkpoint = True
 
     # --- what there is
 
@@ -227,8 +229,18 @@ class Unit:
     def record(self, most_steps: int = 0) -> str:
         """What happened at the unit since it was mounted, or since its last checkpoint, and its
         medium: a line of JSON for each entry, and for each of its first commands, if that many are
-        wanted (docs/REPORT.md). Requests have numbers from 1 on, counted since then."""
-        return self._calls.make("make_record", self.number, most_steps).decode("ascii")
+        wanted (docs/REPORT.md). Requests have the numbers that `Site.issue` returned."""
+        lines = self._calls.make("make_record", self.number, most_steps).decode("ascii")
+        return renumbered(lines, self._earlier()) if self._has_checkpoint else lines
+
+    def _earlier(self) -> Dict[int, int]:
+        """By task, how many requests it had at the unit before the last checkpoint, if it had one
+        since: the first that arrived since then counts from there."""
+        earlier: Dict[int, int] = {}
+        for entry in self.entries():
+            if entry.kind == EntryKind.ARRIVED and entry.name:
+                earlier.setdefault(entry.name.task, entry.name.number - 1)
+        return earlier
 
     def history(self, most_steps: int = 0) -> str:
         """The record of the unit as text: a line for each entry, and some for each command."""

@@ -557,6 +557,23 @@ class Histories(unittest.TestCase):
             self.assertEqual(whats, ["unit", "opened", "arrived", "started", "ran", "step", "posted", "medium", "line"])
             self.assertNotIn('"step"', printer.record())
 
+    def test_after_a_checkpoint(self):
+        """A history goes on with the numbers of requests, of each task."""
+        with Site(tasks=2) as site:
+            printer = site.printer(lines=100, pages=5)
+            dcb = printer.open()
+            for task in 0, 0, 1:
+                name = site.issue(task, dcb, request(Ccw(Op.PR1, "BUFFER", count=5)))
+                printer.serve()
+                site.posts(task)
+                history = printer.history()
+                self.assertIn(f"task {task} request {name.number} arrived", history)
+                self.assertIn(f"task {task} request {name.number} posted 7F", history)
+                self.assertEqual(history.count(" arrived "), 1)
+                printer.checkpoint()
+            self.assertEqual(name.number, 1)
+            self.assertNotIn("request", printer.history())
+
 
 class Mistakes(unittest.TestCase):
     """What calls reject, and that it changes nothing."""

@@ -6,7 +6,7 @@ from __future__ import annotations
 import json
 import re
 from enum import Enum
-from typing import Any, Dict, Iterable, Iterator, Optional
+from typing import Any, Dict, Iterable, Iterator, Mapping, Match, Optional
 
 from ..device_status import NORMAL_END
 
@@ -34,6 +34,9 @@ EVENTS = CONTROLS | {"opened", "arrived", "started", "ran", "halted", "posted"}
 # What the events of a task are.
 TASK_EVENTS = frozenset(("issued", "waited", "collected", "controlled"))
 
+# How a line names a request.
+_NAMED = re.compile(r'"task":(\d+),"request":(\d+)')
+
 _WHAT = re.compile(r'\{(?:"at":\d+,)?(?:"entry":\d+,)?"what":"([a-z_]+)"')
 
 _DECODER = json.JSONDecoder()
@@ -43,6 +46,16 @@ def members(text: str) -> Members:
     """The members of the object of JSON with which a text begins."""
     found: Members = _DECODER.raw_decode(text)[0]
     return found
+
+
+def renumbered(lines: str, earlier: Mapping[int, int]) -> str:
+    """A record whose requests count on from how many the task had earlier."""
+
+    def named(found: Match[str]) -> str:
+        task, number = map(int, found.groups())
+        return f'"task":{task},"request":{number + earlier.get(task, 0)}'
+
+    return _NAMED.sub(named, lines)
 
 
 def has_failed(step: Members) -> bool:
