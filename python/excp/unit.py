@@ -234,8 +234,8 @@ class Unit:
         return renumbered(lines, self._earlier()) if self._has_checkpoint else lines
 
     def _earlier(self) -> Dict[int, int]:
-        """By task, how many requests it had at the unit before the last checkpoint, if it had one
-        since: the first that arrived since then counts from there."""
+        """By task, how many requests came before the last checkpoint. A task without a request
+        since then is left out."""
         earlier: Dict[int, int] = {}
         for entry in self.entries():
             if entry.kind == EntryKind.ARRIVED and entry.name:
